@@ -1,3 +1,4 @@
+pub mod CountLemmas
 pub mod LivesLemmas
 pub mod ProfileLemmas
 pub mod RunLemmas

@@ -1,17 +1,20 @@
 -- The response of a run whose states are counted.
-use Rattle.std.proofs.Common.{◌≡◌, ◌≢◌, ◌⊎◌, inl, inr, ℕ, ◌+◌, ◌-◌, ◌^◌, ◌<◌, ◌≤◌, false, List, [], ◌∷◌, ◌++◌, length, Option, Some, None, Result, Ok, Err, refl, sym, ◌∙◌, ap, subst, arith}
-use Rattle.std.specs.Prelude.{max, IfErr}
+use Rattle.std.proofs.Common.{◌≡◌, ◌≢◌, ◌⊎◌, inl, inr, ℕ, ◌+◌, ◌-◌, ◌^◌, ◌<◌, ◌≤◌, false, true, List, [], ◌∷◌, ◌++◌, length, Option, Some, None, Result, Ok, Err, refl, sym, ◌∙◌, ap, subst, arith}
+use Rattle.std.specs.Prelude.{max, OnOk}
 use Rattle.std.specs.List.{Any}
 use Rattle.kc_base.specs.Causes.{Rose, Grew, GrewByPart}
 use Rattle.kc_base.specs.Held.{Holding}
 use Rattle.kc_trace.specs.Out.{Out, Puts}
-use Rattle.kc_trace.proofs.Outs.{Puts-nothing}
+use Rattle.kc_trace.specs.Text.{text_of}
+use Rattle.kc_trace.specs.declared.trace.WriteFault.{WriteFault}
+use Rattle.kc_trace.proofs.Outs.{Puts-longer, Puts-nothing}
+use Rattle.kc_trace.proofs.Printed.{text_of-append}
 use Rattle.kc_debug_script.specs.declared.line_map.MapEntry.{MapEntry}
 use Rattle.kc_machine_spec.specs.declared.doing.End.{End}
 use Rattle.kc_machine_spec.specs.declared.doing.End.TheVariants as end
 use Rattle.kc_machine_spec.specs.Machine.{Machine, Stepped}
-use Rattle.kc_machine_spec.specs.Run.{run_to, end_of}
-use Rattle.kc_machine_spec.specs.Text.{trace_of}
+use Rattle.kc_machine_spec.specs.Run.{run_for, run_to, end_of}
+use Rattle.kc_machine_spec.specs.Text.{finals, trace_of}
 use Rattle.kc_cycles.specs.declared.lives.LivesFault.{LivesFault}
 use Rattle.kc_cycles.specs.declared.lives.LivesFault.TheVariants as fault
 use Rattle.kc_profile.specs.declared.sight.Sight.{Sight}
@@ -142,6 +145,11 @@ once-texts states now k m begun tally first statistics profile cover start none 
       cover = (c ∙ ap (λ t. cover_text None t k.sources) other) i;
     }
 
+-- before its first state
+still-there : (m : Machine FittedUnit) → m ≡ (run_to fitted_further m.time m).machine
+unfolding run_for
+still-there m = let none : m.time - m.time ≡ 0 = omega arith in ap (λ n. (run_for fitted_further n m).machine) (sym none)
+
 -- over the machine that it starts with
 pub once-of : ℕ → Known → Machine FittedUnit → Run
 once-of states k m =
@@ -154,3 +162,46 @@ once-start states k driving image m e = ap (once-of states k) e
 
 pub machine-begins : (driving : Driving) (image : List ℕ) (m : Machine FittedUnit) → m ≡ machine_of driving image → Begins m
 machine-begins driving image m e = subst Begins (sym e) (record { time = refl; pending = refl; handed = refl })
+
+-- in what it was counted
+pub once-statistics : (now : ℕ) (m n : Machine FittedUnit) (first statistics : Statistics) (result : Result End WriteFault) (how : End) → m.time ≡ 0 → Begins m → first.life ≡ 1 → AreStatisticsOf 1 [] first → result ≡ Ok how →
+    (m ≡ (run_to fitted_further m.time m).machine → AreStatisticsOf first.life (history fitted_further m.time m) first → OnOk result (AreStatisticsOf first.life (history fitted_further n.time m) statistics)) → now ≡ n.time - m.time →
+    AreStatisticsOf 1 (history fitted_further now m) statistics
+once-statistics now m n first statistics result how start begins life none is counted e =
+    let zero : history fitted_further m.time m ≡ [] = ap (λ t. history fitted_further t m) start ∙ none-shown m in
+    let there : AreStatisticsOf first.life (history fitted_further m.time m) first =
+    subst (λ (sights : List Sight). AreStatisticsOf first.life sights first) (sym zero) (subst (λ (l : ℕ). AreStatisticsOf l [] first) (sym life) none) in
+    let same : m ≡ (run_to fitted_further m.time m).machine = still-there m in
+    let all : AreStatisticsOf first.life (history fitted_further n.time m) statistics = subst (λ (r : Result End WriteFault). OnOk r (AreStatisticsOf first.life (history fitted_further n.time m) statistics)) is (counted same there) in
+    let till : n.time ≡ now = omega (arith, start, e) in
+    subst (λ (t : ℕ). AreStatisticsOf 1 (history fitted_further t m) statistics) till (subst (λ (l : ℕ). AreStatisticsOf l (history fitted_further n.time m) statistics) life all)
+  where
+    none-shown : (m : Machine FittedUnit) → history fitted_further 0 m ≡ []
+    unfolding history
+    none-shown m = refl
+
+pub once-shown : (states now : ℕ) (m n : Machine FittedUnit) (result : Result End WriteFault) (how : End) → m.time ≡ 0 → result ≡ Ok how →
+    (m ≡ (run_to fitted_further m.time m).machine → m.time ≡ 0 → OnOk result (history fitted_further (max states m.time) m ≡ history fitted_further n.time m)) → now ≡ n.time - m.time →
+    history fitted_further (max states m.time) m ≡ history fitted_further now m
+once-shown states now m n result how start is shown e =
+    let all = subst (λ (r : Result End WriteFault). OnOk r (history fitted_further (max states m.time) m ≡ history fitted_further n.time m)) is (shown (still-there m) start) in
+    let till : n.time ≡ now = omega (arith, start, e) in
+    all ∙ ap (λ t. history fitted_further t m) till
+
+-- what is known of it
+pub once-passed : (states : ℕ) (k : Known) (m : Machine FittedUnit) (old new : Out) (how : End) (texts : Texts) → how ≡ end_of (run_to fitted_further states m).machine → Puts old (trace_of (run_to fitted_further states m)) new → new.failed ≡ false →
+    texts ≡ run_texts k (counted_for fitted_further states m) → HasPassed (once-of states k m) old how texts new
+unfolding once-of
+once-passed states k m old new how texts e put written t = record { how = e; lines = put; written = written; texts = t }
+
+pub once-wanting : (states : ℕ) (k : Known) (m : Machine FittedUnit) (old new : Out) → Puts old (trace_of (run_to fitted_further states m)) new → new.failed ≡ false → HasFailed (once-of states k m) old fault.NoMemory new
+unfolding once-of
+once-wanting states k m old new put written = (last-pause (λ text. Puts old text new) ([] ∷ []) (trace_of (run_to fitted_further states m)) put, written)
+
+-- the sink failed in its lines, and the finals are not put
+pub once-broken : (states : ℕ) (k : Known) (m : Machine FittedUnit) (old new : Out) → new.failed ≡ true → Puts old (text_of (run_to fitted_further states m).records) new → Puts old (once-of states k m).text new
+unfolding once-of
+once-broken states k m old new failed put =
+    let ran : Stepped FittedUnit = run_to fitted_further states m in
+    let last = finals (end_of ran.machine) ran.machine in
+    subst (λ text. Puts old text new) (sym (text_of-append ran.records last)) (Puts-longer old (text_of ran.records) (text_of last) new failed put)
