@@ -12,6 +12,7 @@ use Rattle.kc_source_statement.specs.declared.statement.Action.TheVariants as ac
 use Rattle.kc_source_statement.specs.declared.statement.Stmt.{Stmt}
 use Rattle.kc_source.specs.Faults.{Fault, AreStatements, faults_of, least}
 use Rattle.kc_obj_module.specs.Object.{Object}
+use Rattle.kc_asm_list.specs.declared.listed.Standing.{Standing}
 use Rattle.kc_asm_list.specs.declared.spot.Spot.{Spot}
 use Rattle.kc_asm_list.specs.Rows.{listing}
 use Rattle.kc_asm_list.specs.Spots.{spots_of}
@@ -38,6 +39,31 @@ IsUnread source f =
     ⊎ (((lines : List Line) × (lines_of source ≡ Ok lines) × (expanded lines ≡ Some (Err f)))
     ⊎ ((lines text : List Line) × IsText source lines text × (least (faults_of text) ≡ Some f)))
 
+-- the first fault of a source, or that memory ran out
+abbrev pub IsFaultOf : List ℕ → SourceFault → Type 0
+IsFaultOf source (faults.At line code) = IsUnread source (line, code)
+IsFaultOf source faults.NoMemory = Unit {0}
+
+abbrev pub IsListed : List ℕ → Object → Result (Vec ℕ) SourceFault → Type 0
+IsListed source m (Ok listed) = IsListing source m listed.items
+IsListed source m (Err fault) = IsFaultOf source fault
+
+-- ---- the instructions of a source
+
+-- the statements of a source, and where they stand
+pub record AreStanding (source : List ℕ) (spots : List Spot) (stmts : List Stmt) : Type 0 where
+  pub lines : List Line
+  pub text : List Line
+  pub is_text : IsText source lines text
+  pub depths : List ℕ
+  pub deep : depths_of lines ≡ Some (Ok depths)
+  pub said : AreStatements stmts text
+  pub own : spots ≡ spots_of text depths stmts
+
+abbrev pub IsStanding : List ℕ → Result Standing SourceFault → Type 0
+IsStanding source (Ok read) = AreStanding source read.spots.items read.stmts.items
+IsStanding source (Err fault) = IsFaultOf source fault
+
 -- a statement is an instruction or a generic branch
 abbrev pub is_operation : Action → Bool
 is_operation (action.Operation name args) = true
@@ -52,22 +78,12 @@ instructions_of (spot ∷ spots) (stmt ∷ stmts) = (if is_instruction stmt then
 instructions_of _ _ = []
 
 -- where the instructions of a source stand
-pub record AreInstructionsOf (source : List ℕ) (spots : List Spot) : Type 0 where
-  pub lines : List Line
-  pub text : List Line
-  pub is_text : IsText source lines text
-  pub depths : List ℕ
-  pub deep : depths_of lines ≡ Some (Ok depths)
+pub record AreInstructionsOf (source : List ℕ) (instructions : List Spot) : Type 0 where
+  pub spots : List Spot
   pub stmts : List Stmt
-  pub said : AreStatements stmts text
-  pub own : spots ≡ instructions_of (spots_of text depths stmts) stmts
+  pub standing : AreStanding source spots stmts
+  pub own : instructions ≡ instructions_of spots stmts
 
 abbrev pub AreInstructions : List ℕ → Result (Vec Spot) SourceFault → Type 0
-AreInstructions source (Ok spots) = AreInstructionsOf source spots.items
-AreInstructions source (Err (faults.At line code)) = IsUnread source (line, code)
-AreInstructions source (Err faults.NoMemory) = Unit {0}
-
-abbrev pub IsListed : List ℕ → Object → Result (Vec ℕ) SourceFault → Type 0
-IsListed source m (Ok listed) = IsListing source m listed.items
-IsListed source m (Err (faults.At line code)) = IsUnread source (line, code)
-IsListed source m (Err faults.NoMemory) = Unit {0}
+AreInstructions source (Ok instructions) = AreInstructionsOf source instructions.items
+AreInstructions source (Err fault) = IsFaultOf source fault

@@ -1,4 +1,4 @@
-ghost use Rattle.std.specs.Prelude.{◌≡◌, ◌≤◌, length};
+ghost use Rattle.std.specs.Prelude.{◌≡◌, ◌≤◌, length, IfOk};
 ghost use Rattle.kc_base.specs.Limits.{file_limit};
 ghost use Rattle.kc_asm_list.specs.Listed as spec;
 
@@ -6,14 +6,36 @@ use crate::rows_listing::rows;
 use crate::spot::Spot;
 use crate::spots::spots_of;
 use kc_asm_symbols::externals_are_few;
+use kc_base::NoMemory;
 use kc_lex::{SourceFault, lines};
 use kc_macro::expand;
 use kc_macro_depth::depths;
 use kc_obj_module::Module;
-use kc_base::NoMemory;
 use kc_source::statements;
 use kc_source_statement::{Action, Stmt};
 use std::alloc::Global;
+
+// The statements of a source, and where they stand.
+#[derive(Drop)]
+pub(crate) struct Standing {
+    pub(crate) spots: Vec<Spot>,
+    pub(crate) stmts: Vec<Stmt>,
+}
+
+// The statements of a source and where they stand, or the first fault that its lines, its macros, or its statements and names have.
+fn read_statements(alloc: Global, source: &[u8]) -> Result<Standing, SourceFault>
+    requires { length source.now ≤ file_limit }
+    ensures { spec.IsStanding source.now result }
+{
+    let read = lines(alloc, source)?;
+    let again = lines(alloc, source)?;
+    let text = expand(alloc, read)?;
+    let deep = depths(alloc, again)?;
+    let stmts = statements(alloc, &text)?;
+    externals_are_few();
+    let spots = spots_of(alloc, &text, &deep, &stmts)?;
+    Ok(Standing { spots, stmts })
+}
 
 /// The listing of a source of at most 1,048,576 bytes, whose module this is: each line with its number and its text, and with
 /// the places and the bytes of the statements that come out of it. Else the first fault of the source that its lines, its
@@ -23,14 +45,8 @@ pub fn listing(alloc: Global, source: &[u8], object: &Module) -> Result<Vec<u8>,
     requires { length source.now ≤ file_limit }
     ensures { spec.IsListed source.now object.now result }
 {
-    let read = lines(alloc, source)?;
-    let again = lines(alloc, source)?;
-    let text = expand(alloc, read)?;
-    let deep = depths(alloc, again)?;
-    let stmts = statements(alloc, &text)?;
-    externals_are_few();
-    let spots = spots_of(alloc, &text, &deep, &stmts)?;
-    let listed = rows(alloc, source, object, spots)?;
+    let read = read_statements(alloc, source)?;
+    let listed = rows(alloc, source, object, read.spots)?;
     Ok(listed)
 }
 
@@ -50,16 +66,14 @@ fn of_instructions(alloc: Global, spots: &[Spot], stmts: &[Stmt]) -> Result<Vec<
     let mut left = spots;
     let mut beside = stmts;
     while let [spot, rest @ ..] = left {
-        match beside {
-            [] => return Ok(own),
-            [stmt, others @ ..] => {
-                if is_instruction(stmt) {
-                    own.push(*spot)?;
-                }
-                beside = others;
-            }
+        let [stmt, others @ ..] = beside else {
+            return Ok(own);
+        };
+        if is_instruction(stmt) {
+            own.push(*spot)?;
         }
         left = rest;
+        beside = others;
     }
     Ok(own)
 }
@@ -67,16 +81,10 @@ fn of_instructions(alloc: Global, spots: &[Spot], stmts: &[Stmt]) -> Result<Vec<
 /// Where the instructions of a source of at most 1,048,576 bytes stand, in the order in which they come out; generic branches are such.
 /// Else the first fault of the source, as of `listing`.
 pub fn instructions(alloc: Global, source: &[u8]) -> Result<Vec<Spot>, SourceFault>
-    requires { length source.now ≤ 1048576 }
+    requires { length source.now ≤ file_limit }
     ensures { spec.AreInstructions source.now result }
 {
-    let read = lines(alloc, source)?;
-    let again = lines(alloc, source)?;
-    let text = expand(alloc, read)?;
-    let deep = depths(alloc, again)?;
-    let stmts = statements(alloc, &text)?;
-    externals_are_few();
-    let spots = spots_of(alloc, &text, &deep, &stmts)?;
-    let own = of_instructions(alloc, &spots, &stmts)?;
+    let read = read_statements(alloc, source)?;
+    let own = of_instructions(alloc, &read.spots, &read.stmts)?;
     Ok(own)
 }

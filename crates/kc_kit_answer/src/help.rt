@@ -5,8 +5,8 @@ ghost use Rattle.kc_kit_answer.specs.Help.{help_rows};
 /// A command, and the lines of `--help` on it. A tuple, since definitions read the table.
 pub type Row = (&'static str, &'static str);
 
-/// The text of `--help` in parts, each with the command that it is on; the first is on none.
-pub static HELP: [Row; 14] = [
+/// The text of `--help` in parts, each with the command that it is on; the first and the last are on none.
+pub static HELP: [Row; 15] = [
     (
         "",
         "kc96 assembles, links and runs programs of the 80C196KC.
@@ -14,20 +14,20 @@ pub static HELP: [Row; 14] = [
     ),
     (
         "run",
-        "  kc96 run NAME.. --states N      run sources, assembled and linked, for N state times
-       [--lives K]                in K lives at most: a reset begins another one, and there is a watchdog
-       [--stim FILE]              with what drives the input pins
-       [--analog FILE]            and the analogue inputs
-       [--reg A-B] [--code A-B]   with registers and code from A to B
-       [--data A-B] [--stack N]   and data, and a stack of N bytes
-       [--profile FILE]           and write where its states were spent, and how long requests waited
-       [--cover FILE]             and write which lines of the sources have run
+        "  kc96 run NAME.. --states N      assemble and link sources, run them for N state times, print the trace
+       [--lives K]                run on after a reset, for K lives at most, with a watchdog
+       [--stim FILE]              drive the input pins as a stimulus file says
+       [--analog FILE]            drive the analogue inputs as an analogue file says
+       [--reg A-B] [--code A-B]   place registers and code from A to B
+       [--data A-B] [--stack N]   place data from A to B, reserve N bytes of stack
+       [--profile FILE]           write a profile: states by address and line, latencies, depth of the stack
+       [--cover FILE]             write the coverage of lines and of conditional jumps, for lcov
 ",
     ),
     (
         "asm",
         "  kc96 asm NAME --out FILE        assemble the source NAME to the object FILE
-       [--list FILE]              and write its lines with the places and the bytes of what they say
+       [--list FILE]              write a listing: each line with its address and its bytes
 ",
     ),
     (
@@ -38,69 +38,76 @@ pub static HELP: [Row; 14] = [
     (
         "link",
         "  kc96 link OBJ.. --out FILE      link objects to the Intel hex file FILE
-       [--lib FILE]               with what they need of a library
-       [--lines FILE]             and write which source line stands where
-       [--map FILE]               and write where pieces and names are, and what is free
-       [--reg A-B] [--code A-B]   with registers and code from A to B
-       [--data A-B] [--stack N]   and data, and a stack of N bytes
+       [--lib FILE]               take the modules that they need from a library
+       [--lines FILE]             write a line map: the address of each source line
+       [--map FILE]               write a map: the addresses of pieces and names, and what is free
+       [--reg A-B] [--code A-B]   place registers and code from A to B
+       [--data A-B] [--stack N]   place data from A to B, reserve N bytes of stack
 ",
     ),
     (
         "hex",
-        "  kc96 hex NAME --states N        run the Intel hex file NAME for N state times
-       [--lives K]                in K lives at most: a reset begins another one, and there is a watchdog
-       [--stim FILE]              with what drives the input pins
-       [--analog FILE]            and the analogue inputs
-       [--profile FILE]           and write where its states were spent, and how long requests waited
+        "  kc96 hex NAME --states N        run the Intel hex file NAME for N state times, print the trace
+       [--lives K]                run on after a reset, for K lives at most, with a watchdog
+       [--stim FILE]              drive the input pins as a stimulus file says
+       [--analog FILE]            drive the analogue inputs as an analogue file says
+       [--profile FILE]           write a profile: states by address, latencies, depth of the stack
 ",
     ),
     (
         "dis",
-        "  kc96 dis NAME A-B               list the instructions of the hex file NAME from A to B
+        "  kc96 dis NAME A-B               disassemble the hex file NAME from address A to B
 ",
     ),
     (
         "debug",
         "  kc96 debug NAME SCRIPT          debug the hex file NAME by the commands of SCRIPT
-       [--lives K]                go on after a reset, over K lives at most, with the watchdog
-       [--lines FILE]             with the source lines of a line map
-       [--stim FILE]              with what drives the input pins
-       [--analog FILE]            and the analogue inputs
+       [--lives K]                run on after a reset, for K lives at most, with a watchdog
+       [--lines FILE]             show source lines by a line map
+       [--stim FILE]              drive the input pins as a stimulus file says
+       [--analog FILE]            drive the analogue inputs as an analogue file says
 ",
     ),
     (
         "vcd",
-        "  kc96 vcd TRACE --out FILE       write a printed trace as waveforms; TRACE - is standard input
-       [--stim FILE]              with what drove the input pins
-       [--analog FILE]            and the analogue inputs
-       [--clock HZ]               of a board whose oscillator has HZ hertz, else 20 million
+        "  kc96 vcd TRACE --out FILE       write a trace as waveforms (VCD); TRACE - is standard input
+       [--stim FILE]              show the input pins that a stimulus file drives
+       [--analog FILE]            show the analogue inputs that an analogue file drives
+       [--clock HZ]               set the frequency of the oscillator, else 20000000 Hz
 ",
     ),
     (
         "check",
-        "  kc96 check TRACE RULES          check a printed trace by timing rules; TRACE - is standard input
-       [--stim FILE]              with the edges of what drove the input pins
-       [--clock HZ]               of a board whose oscillator has HZ hertz, else 20 million
+        "  kc96 check TRACE RULES          check a trace by timing rules; TRACE - is standard input
+       [--stim FILE]              read the edges of input pins from a stimulus file
+       [--clock HZ]               set the frequency of the oscillator, else 20000000 Hz
 ",
     ),
     (
         "gen",
-        "  kc96 gen N                      make a program from the number N, run it and count what it does
+        "  kc96 gen N                      generate a program from the number N, run it, count its events
 ",
     ),
     (
         "explain",
-        "  kc96 explain CODE               explain a code, or what the instruction of that name does
+        "  kc96 explain CODE               explain a fault (E07), an undefined use (kind7), a request (request3),
+                                  a status (status4) or an instruction (LD)
 ",
     ),
     (
         "--help",
-        "  kc96 --help                     print this text; behind a command, the part on this command
+        "  kc96 --help                     print this help; behind a command, the part on it
 ",
     ),
     (
         "--version",
         "  kc96 --version                  print the name and the version
+",
+    ),
+    (
+        "",
+        "status: 0 done, 1 wrong words, 2 file missing or code unknown, 3 fault in a source, 4 fault in another file,
+        5 rule of linking broken, 6 undefined use, 7 read failed, 8 write failed, 9 out of memory, 10 timing rule broken
 ",
     ),
 ];

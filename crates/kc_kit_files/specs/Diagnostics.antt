@@ -34,4 +34,4 @@ abbrev pub output_diagnostic : List ℕ
 output_diagnostic = codes "kc96: error: standard output could not be written\n"
 
 abbrev pub memory_diagnostic : List ℕ
-memory_diagnostic = codes "kc96: error: memory was wanted and not had\n"
+memory_diagnostic = codes "kc96: error: out of memory\n"

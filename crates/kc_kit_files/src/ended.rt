@@ -46,9 +46,7 @@ impl<'a> Ended<'a> {
         ensures { Puts (out_of N.written N.faults diagnostics.old) (diagnostic_in self.now) (out_of N.written N.faults diagnostics.new) }
     {
         match self.status {
-            Status::NoMemory => diagnostics.put_text(
-                b"kc96: error: memory was wanted and not had\n",
-            ),
+            Status::NoMemory => diagnostics.put_text(b"kc96: error: out of memory\n"),
             Status::WriteFault => put_unwritten(&self.said, diagnostics),
             _ => put_said(&self.said, diagnostics),
         }

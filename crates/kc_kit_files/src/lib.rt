@@ -17,6 +17,6 @@ pub use reading::{read_file, read_files, unread};
 pub use refusal::{Cause, Refusal, refusal_of};
 pub use saying::{refuse, report, say};
 pub use status::Status;
-pub use text::{put_shown, report_shown, shown};
+pub use text::{put_shown, put_text, report_shown, shown};
 pub use word::{put_word, report_word};
 pub use writing::{long_output, write_file};

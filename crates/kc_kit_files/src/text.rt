@@ -1,4 +1,4 @@
-// A text as it is shown.
+// Texts that are put together, and texts as they are shown.
 ghost use Rattle.std.specs.Prelude.{◌≡◌, ◌++◌, IfOk, OnOk};
 ghost use Rattle.kc_trace.specs.Out.{Puts};
 ghost use Rattle.kc_trace.specs.Trace.{out_of};
@@ -37,6 +37,14 @@ pub fn put_shown(diagnostic: &mut Vec<u8>, text: &[u8]) -> Result<(), NoMemory>
         put_byte(diagnostic, *byte)?;
         left = rest;
     }
+    Ok(())
+}
+
+/// Puts words behind a text.
+pub fn put_text(text: &mut Vec<u8>, more: &str) -> Result<(), NoMemory>
+    ensures { OnOk result (text.new.items ≡ text.old.items ++ more.now) }
+{
+    text.extend_from_slice(more.as_bytes())?;
     Ok(())
 }
 

@@ -4,6 +4,7 @@ use Rattle.std.specs.Prelude.{codes}
 use Rattle.std.proofs.lemmas.Bool.{and_parts, cases_lt}
 use Rattle.kc_base.specs.declared.types.Kind.{Kind}
 use Rattle.kc_base.specs.declared.types.Kind.TheVariants as kind
+use Rattle.kc_base.specs.Limits.{entry_count}
 use Rattle.kc_isa.specs.declared.table.Mnemonic.{Mnemonic}
 use Rattle.kc_isa.specs.declared.table.Mnemonic.TheVariants as mnemonic
 use Rattle.kc_isa.specs.Names.{name_of}
@@ -149,9 +150,9 @@ kinds kind.OutsideMap = refl
 kinds kind.ByteAccess = refl
 kinds kind.IdleKey = refl
 
-requests : (n : ℕ) → n < 18 → IsExplained (numbered (codes "request") n)
+requests : (n : ℕ) → n < entry_count → IsExplained (numbered (codes "request") n)
 unfolding all_codes instruction_codes
-requests n few = each_below (λ k. has_row (numbered (codes "request") k)) 18 n refl few
+requests n few = each_below (λ k. has_row (numbered (codes "request") k)) entry_count n refl few
 
 analog : IsExplained (codes "BADANALOG")
 unfolding all_codes instruction_codes
@@ -205,7 +206,7 @@ uses_are_explained = record { kinds = kinds; requests = requests; statuses = sta
 
 pub vectors_are_described : VectorsAreDescribed
 unfolding all_said source_rows input_rows run_rows instruction_rows first_rows second_rows third_rows fourth_rows
-vectors_are_described number few = each_below (λ n. ends_with (vector_words n) (sentence_of (numbered (codes "request") n))) 18 number refl few
+vectors_are_described number few = each_below (λ n. ends_with (vector_words n) (sentence_of (numbered (codes "request") n))) entry_count number refl few
 
 -- ---- instructions
 

@@ -3,3 +3,4 @@ pub mod Explained
 pub mod Distinct
 pub mod DiagnosticLemmas
 pub mod Words
+pub mod Numbered

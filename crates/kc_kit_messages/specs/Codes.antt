@@ -2,6 +2,7 @@
 use Rattle.std.specs.Prelude.{ℕ, ◌+◌, ◌/◌, ◌%◌, List, [], ◌∷◌, ◌++◌, Option, Some, None, codes, map, nat_lt, if◌then◌else◌}
 use Rattle.std.specs.List.{range_with_len}
 use Rattle.kc_base.specs.declared.types.Kind.{Kind}
+use Rattle.kc_base.specs.Limits.{entry_count}
 use Rattle.kc_isa.specs.Names.{name_of}
 use Rattle.kc_kit_messages.specs.Mnemonics.{all_mnemonics}
 use Rattle.kc_trace.specs.Text.{kind_number}
@@ -79,7 +80,7 @@ rule_codes = codes "unresolved" ∷ codes "duplicate" ∷ codes "overlap" ∷ co
 abbrev pub run_codes : List (List ℕ)
 run_codes =
     rule_codes ++ map (numbered (codes "kind")) (range_with_len 1 14)
-    ++ map (numbered (codes "request")) (range_with_len 0 18) ++ map (numbered (codes "status")) (range_with_len 0 11)
+    ++ map (numbered (codes "request")) (range_with_len 0 entry_count) ++ map (numbered (codes "status")) (range_with_len 0 11)
 
 -- an instruction by its name
 unfoldable pub instruction_codes : List (List ℕ)

@@ -4,6 +4,7 @@ use Rattle.std.specs.List.{IsDistinct}
 use Rattle.std.specs.Str.{bytes_eq}
 use Rattle.kc_base.specs.declared.types.Kind.{Kind}
 use Rattle.kc_base.specs.Digits.{hex}
+use Rattle.kc_base.specs.Limits.{entry_count}
 use Rattle.kc_isa.specs.declared.table.Mnemonic.{Mnemonic}
 use Rattle.kc_isa.specs.Names.{name_of}
 use Rattle.kc_lex.specs.declared.fault.SourceCode.{SourceCode}
@@ -43,7 +44,7 @@ pub record FaultsAreExplained : Type 0 where
 
 pub record UsesAreExplained : Type 0 where
   pub kinds : (kind : Kind) → IsExplained (kind_code kind)
-  pub requests : (n : ℕ) → n < 18 → IsExplained (numbered (codes "request") n)
+  pub requests : (n : ℕ) → n < entry_count → IsExplained (numbered (codes "request") n)
   pub statuses : (given : Status) → IsExplained (status_code given)
 
 abbrev pub MnemonicsAreExplained : Type 0
@@ -57,7 +58,7 @@ abbrev pub vector_words : ℕ → List ℕ
 vector_words number = codes "vector " ++ hex 4 (vector_at number) ++ codes "H"
 
 abbrev pub VectorsAreDescribed : Type 0
-VectorsAreDescribed = (number : ℕ) → number < 18 → ends_with (vector_words number) (sentence_of (numbered (codes "request") number)) ≡ true
+VectorsAreDescribed = (number : ℕ) → number < entry_count → ends_with (vector_words number) (sentence_of (numbered (codes "request") number)) ≡ true
 
 -- the rows are those of the codes, and no two of them have one code
 pub record CodesDiffer : Type 0 where

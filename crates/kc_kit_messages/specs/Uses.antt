@@ -2,7 +2,6 @@
 -- from one, the kind with its sentence, the access that was refused, where it is one that was, and the address and the state.
 use Rattle.std.specs.Prelude.{ℕ, nat_lt, List, [], ◌++◌, codes, decimal, Option, Some, None, if◌then◌else◌}
 use Rattle.kc_base.specs.Digits.{hex}
-use Rattle.kc_base.specs.declared.types.Kind.{Kind}
 use Rattle.kc_base.specs.declared.types.Undefined.{Undefined}
 use Rattle.kc_exec_spec.specs.declared.access.Master.{Master}
 use Rattle.kc_exec_spec.specs.declared.access.Master.TheVariants.{Cpu, Server}
@@ -10,6 +9,7 @@ use Rattle.kc_exec_spec.specs.declared.access.Access.{Access}
 use Rattle.kc_exec_spec.specs.declared.access.Access.TheVariants.{ReadByte, ReadWord, WriteByte, WriteWord, SetMasks}
 use Rattle.kc_trace.specs.Text.{kind_number}
 use Rattle.kc_kit_files.specs.Shown.{shown}
+use Rattle.kc_kit_messages.specs.Codes.{kind_code}
 use Rattle.kc_kit_messages.specs.Diagnostics.{number_text}
 use Rattle.kc_kit_messages.specs.Meanings.{sentence_of}
 
@@ -40,10 +40,6 @@ access_text (SetMasks m) = codes "14H written"
 abbrev pub refused_text : Option Access → List ℕ
 refused_text None = []
 refused_text (Some access) = codes " (" ++ access_text access ++ codes ")"
-
--- the code of a kind, as `explain` knows it
-abbrev pub kind_code : Kind → List ℕ
-kind_code kind = codes "kind" ++ decimal (kind_number kind)
 
 abbrev pub use_diagnostic : Option FileLine → Undefined → Option Access → List ℕ
 use_diagnostic place what access =

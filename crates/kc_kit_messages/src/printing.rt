@@ -6,14 +6,8 @@ ghost use Rattle.kc_kit_messages.specs.Text.{example_text, meaning_text};
 
 use crate::meaning::{Example, Meaning};
 use kc_base::NoMemory;
+use kc_kit_files::put_text;
 use std::alloc::Global;
-
-fn put(text: &mut Vec<u8>, more: &str) -> Result<(), NoMemory>
-    ensures { OnOk result (text.new.items ≡ text.old.items ++ more.now) }
-{
-    text.extend_from_slice(more.as_bytes())?;
-    Ok(())
-}
 
 fn put_example(text: &mut Vec<u8>, example: &Option<Example>) -> Result<(), NoMemory>
     ensures { OnOk result (text.new.items ≡ text.old.items ++ example_text (option_map (λ e. (e.wrong.now, e.right.now)) example.now)) }
@@ -21,11 +15,11 @@ fn put_example(text: &mut Vec<u8>, example: &Option<Example>) -> Result<(), NoMe
     let Some(example) = example else {
         return Ok(());
     };
-    put(text, "wrong:\n")?;
-    put(text, example.wrong)?;
-    put(text, "\nright:\n")?;
-    put(text, example.right)?;
-    put(text, "\n")
+    put_text(text, "wrong:\n")?;
+    put_text(text, example.wrong)?;
+    put_text(text, "\nright:\n")?;
+    put_text(text, example.right)?;
+    put_text(text, "\n")
 }
 
 /// What is printed of a meaning: its code and its sentence in a line, and where it has an example, the line `wrong:` with the
@@ -34,10 +28,10 @@ pub fn meaning_text(alloc: Global, row: &Meaning) -> Result<Vec<u8>, NoMemory>
     ensures { IfOk result (λ text. text.items ≡ meaning_text (said row.now)) }
 {
     let mut text = Vec::new(alloc);
-    put(&mut text, row.code)?;
-    put(&mut text, ": ")?;
-    put(&mut text, row.sentence)?;
-    put(&mut text, ".\n")?;
+    put_text(&mut text, row.code)?;
+    put_text(&mut text, ": ")?;
+    put_text(&mut text, row.sentence)?;
+    put_text(&mut text, ".\n")?;
     put_example(&mut text, &row.example)?;
     Ok(text)
 }

@@ -193,7 +193,7 @@ static RUNS: [Row; 48] = [
     row!("status6", "the run has ended in an undefined use"),
     row!("status7", "a file could not be read"),
     row!("status8", "the output or a file could not be written"),
-    row!("status9", "memory was wanted and not had"),
+    row!("status9", "memory has run out"),
     row!("status10", "a rule is broken"),
 ];
 

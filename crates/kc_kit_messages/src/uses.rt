@@ -2,14 +2,15 @@
 ghost use Rattle.std.specs.Prelude.{◌≡◌, ◌++◌, codes, decimal, IfOk, OnOk};
 ghost use Rattle.std.specs.Option.{option_map};
 ghost use Rattle.kc_trace.specs.Text.{kind_number};
+ghost use Rattle.kc_kit_messages.specs.Codes.{kind_code};
 ghost use Rattle.kc_kit_messages.specs.Meanings.{sentence_of};
-ghost use Rattle.kc_kit_messages.specs.Uses.{access_text, accessed, by_text, kind_code, place_text, refused_text, use_diagnostic};
+ghost use Rattle.kc_kit_messages.specs.Uses.{access_text, accessed, by_text, place_text, refused_text, use_diagnostic};
 
 use crate::diagnostics::put_number;
 use crate::lookup::sentence;
 use kc_base::{Kind, NoMemory, Undefined, address_text, byte_text};
 use kc_exec_spec::{Access, Master};
-use kc_kit_files::put_shown;
+use kc_kit_files::{put_shown, put_text};
 use kc_trace::kind_number;
 use std::alloc::Global;
 
@@ -20,18 +21,11 @@ pub struct FileLine<'a> {
     pub line: u32,
 }
 
-fn put(text: &mut Vec<u8>, more: &str) -> Result<(), NoMemory>
-    ensures { OnOk result (text.new.items ≡ text.old.items ++ more.now) }
-{
-    text.extend_from_slice(more.as_bytes())?;
-    Ok(())
-}
-
 fn put_place(text: &mut Vec<u8>, place: Option<FileLine<'_>>) -> Result<(), NoMemory>
     ensures { OnOk result (text.new.items ≡ text.old.items ++ place_text (option_map (λ at. record { file = at.file.now; line = at.line }) place.entry)) }
 {
     match place {
-        None => put(text, "kc96"),
+        None => put_text(text, "kc96"),
         Some(at) => {
             put_shown(text, at.file.as_bytes())?;
             put_number(text, at.line)
@@ -48,10 +42,10 @@ fn put_accessed(text: &mut Vec<u8>, addr: u16) -> Result<(), NoMemory>
     } else {
         text.extend_from_slice(address_text(addr).as_slice())?;
     }
-    put(text, "H")
+    put_text(text, "H")
 }
 
-fn name_of(by: Master) -> &'static str
+fn by_text(by: Master) -> &'static str
     ensures { result.now ≡ by_text by }
 {
     match by {
@@ -70,10 +64,10 @@ fn put_access(
 ) -> Result<(), NoMemory>
     ensures { OnOk result (text.new.items ≡ text.old.items ++ width.now ++ accessed addr ++ done.now ++ by_text by) }
 {
-    put(text, width)?;
+    put_text(text, width)?;
     put_accessed(text, addr)?;
-    put(text, done)?;
-    put(text, name_of(by))
+    put_text(text, done)?;
+    put_text(text, by_text(by))
 }
 
 fn put_refused(text: &mut Vec<u8>, access: Access) -> Result<(), NoMemory>
@@ -84,7 +78,7 @@ fn put_refused(text: &mut Vec<u8>, access: Access) -> Result<(), NoMemory>
         Access::ReadWord(by, addr) => put_access(text, "word ", addr, " read", by),
         Access::WriteByte(by, addr, _) => put_access(text, "", addr, " written", by),
         Access::WriteWord(by, addr, _) => put_access(text, "word ", addr, " written", by),
-        Access::SetMasks(_) => put(text, "14H written"),
+        Access::SetMasks(_) => put_text(text, "14H written"),
     }
 }
 
@@ -95,11 +89,13 @@ fn put_refusal(text: &mut Vec<u8>, access: Option<Access>) -> Result<(), NoMemor
     let Some(access) = access else {
         return Ok(());
     };
-    put(text, " (")?;
+    put_text(text, " (")?;
     put_refused(text, access)?;
-    put(text, ")")
+    put_text(text, ")")
 }
 
+// The code of a kind, as `explain` knows it.
+#[tactic(auto, using(crate::proofs::Numbered::kind_digits))]
 fn kind_code(alloc: Global, kind: Kind) -> Result<Vec<u8>, NoMemory>
     ensures { IfOk result (λ code. code.items ≡ kind_code kind) }
 {
@@ -112,11 +108,11 @@ fn kind_code(alloc: Global, kind: Kind) -> Result<Vec<u8>, NoMemory>
 fn put_kind(alloc: Global, text: &mut Vec<u8>, kind: Kind) -> Result<(), NoMemory>
     ensures { OnOk result (text.new.items ≡ text.old.items ++ codes ": undefined use " ++ decimal (kind_number kind) ++ codes ": " ++ sentence_of (kind_code kind)) }
 {
-    put(text, ": undefined use ")?;
+    put_text(text, ": undefined use ")?;
     kc_base::put_number(text, u128::from(kind_number(kind)))?;
-    put(text, ": ")?;
+    put_text(text, ": ")?;
     let code = kind_code(alloc, kind)?;
-    put(text, sentence(&code))
+    put_text(text, sentence(&code))
 }
 
 /// What is said of an undefined use: the line of which the bytes at its address come, where that is known, its kind, the access that
@@ -133,10 +129,10 @@ pub fn use_diagnostic(
     put_place(&mut text, place)?;
     put_kind(alloc, &mut text, what.kind)?;
     put_refusal(&mut text, access)?;
-    put(&mut text, " at ")?;
+    put_text(&mut text, " at ")?;
     text.extend_from_slice(address_text(what.addr).as_slice())?;
-    put(&mut text, "H in state ")?;
+    put_text(&mut text, "H in state ")?;
     kc_base::put_number(&mut text, u128::from(what.at))?;
-    put(&mut text, "\n")?;
+    put_text(&mut text, "\n")?;
     Ok(text)
 }

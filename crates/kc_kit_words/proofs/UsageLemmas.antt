@@ -12,7 +12,7 @@ use Rattle.kc_kit_words.specs.declared.extent.Extent.{Extent}
 use Rattle.kc_kit_words.specs.declared.values.Form.{Form}
 use Rattle.kc_kit_words.specs.declared.usage.Wrong.TheVariants as wrong
 use Rattle.kc_kit_words.specs.Number.{number_of}
-use Rattle.kc_kit_words.specs.Options.{form_of, has_form, value_of, are_options, inputs_of, clock_in, extent_in}
+use Rattle.kc_kit_words.specs.Options.{form_of, has_form, value_of, are_options, inputs_of, clock_in, extent_in, lives_in}
 use Rattle.kc_kit_words.specs.Values.{is_name, is_trace_name, range_of}
 use Rattle.kc_kit_words.specs.Usage.{wrong_text, no_command, bad_value, bad_number, twice, lacks, wrong_value, wrong_last, wrong_option, lacks_out, wrong_extent, wrong_listing, wrong_placing, wrong_outputs, wrong_name, wrong_files, wrong_file, wrong_trace, wrong_dump, wrong_pair, wrong_range, wrong_list, wrong_number, wrong_word, wrong_more, wrong_by, wrong_with, wrong_writes, overwrites, plain_usage_of, wrong_check, wrong_run_options}
 use Rattle.kc_kit_words.specs.UsageLaw.{WrongWhereNoCommand}
@@ -224,7 +224,7 @@ list-agrees (file ∷ range ∷ word ∷ words) = refl
 debug-agrees : (files : List (List ℕ)) (verb : List ℕ) (options : List (List ℕ)) → is_some (wrong_pair files) ≡ is_none (debug_by files verb options)
 debug-agrees [] verb options = refl
 debug-agrees (file ∷ []) verb options = refl
-debug-agrees (file ∷ script ∷ []) verb options = by (is_name file) (is_name script) (Debugs file script (inputs_of verb options))
+debug-agrees (file ∷ script ∷ []) verb options = by (is_name file) (is_name script) (Debugs file script (inputs_of verb options) (lives_in options))
   where
     by : (a b : Bool) (c : Command) → is_some (option_or (cond a None (Some (wrong_text wrong.BadName))) (cond b None (Some (wrong_text wrong.BadName)))) ≡ is_none (cond (a && b) (Some c) None)
     by true true c = refl

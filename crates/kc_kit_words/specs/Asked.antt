@@ -1,5 +1,5 @@
 -- What a read command asks for, and what a read option sets (this kit's own).
-use Rattle.std.specs.Prelude.{◌≡◌, ℕ, ◌≤◌, ◌<◌, true, map, length, string_bytes, IfSome}
+use Rattle.std.specs.Prelude.{◌≡◌, ℕ, ◌≤◌, ◌<◌, true, map, length, string_bytes, Option, IfSome}
 use Rattle.std.specs.Option.{option_map}
 use Rattle.kc_base.specs.Limits.{image_start}
 use Rattle.kc_link_place.specs.declared.ranges.Ranges.{Ranges}
@@ -56,7 +56,7 @@ pub record IsBounded (extent : Extent) : Type 0 where
   pub some : IfSome extent.lives (λ n. 1 ≤ n)
   pub few : IfSome extent.lives (λ n. n ≤ max_lives)
 
--- lives within their limits, where their number is reported
+-- lives within their limits, where an option gives their number
 pub record AreLives (lives : Option ℕ) : Type 0 where
   pub some : IfSome lives (λ n. 1 ≤ n)
   pub few : IfSome lives (λ n. n ≤ max_lives)

@@ -86,7 +86,7 @@ pub struct List<'a> {
     pub last: u16,
 }
 
-/// A run of a hex file as the commands of a script say, over at most so many lives, where an option says it.
+/// A run of a hex file as the commands of a script say, over at most so many lives where an option gives their number.
 #[derive(Clone, Copy)]
 pub struct Debug<'a> {
     pub file: &'a str,
@@ -125,7 +125,7 @@ pub struct Explain<'a> {
     pub code: &'a str,
 }
 
-/// A command that is known of.
+/// A command whose help is asked for.
 #[derive(Clone, Copy)]
 pub struct HelpOn<'a> {
     pub verb: &'a str,

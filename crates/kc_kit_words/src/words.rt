@@ -14,7 +14,9 @@ use crate::command::{
 };
 use crate::extent::Extent;
 use crate::inputs::Inputs;
-use crate::options::{are_options, clock_in, count_files, extent_in, length_in, lives_in, range_in, value_of};
+use crate::options::{
+    are_options, clock_in, count_files, extent_in, length_in, lives_in, range_in, value_of,
+};
 use crate::overwriting::sparing;
 use crate::values::{is_name, is_trace_name, range, short};
 use kc_base::IMAGE_START;
