@@ -9,5 +9,5 @@ mod window;
 
 pub use host::HostInput;
 pub use lines::{LineFault, Lines, MOST};
-pub use memory::MemSource;
+pub use memory::{MemSource, copy_prefix};
 pub use source::{Failed, Source};

@@ -6,8 +6,8 @@ ghost use Rattle.kc_base.specs.Memory.{faults_in, next_call, is_to_fail};
 use crate::{Failed, Source};
 use kc_base::count_call;
 
-// Copies a prefix of a text to the beginning of the room, at most so many bytes of it, and says how many.
-fn copy_prefix(room: &mut [u8], text: &[u8], most: usize) -> usize
+/// Copies a prefix of a text to the beginning of the room, at most so many bytes of it, and says how many.
+pub fn copy_prefix(room: &mut [u8], text: &[u8], most: usize) -> usize
     ensures count { result ≡ min most (min (length room.old) (length text.now)) }
     ensures bytes { take result room.new ≡ take result text.now }
 {

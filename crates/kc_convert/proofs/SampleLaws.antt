@@ -13,23 +13,23 @@ use Rattle.std.proofs.lemmas.List.Sorted.{IsNonDecreasingBy-push}
 use Rattle.std.proofs.lemmas.Option.{slice_get-get_or}
 use Rattle.std.proofs.Math.Bool.{and-true, and-false}
 use Rattle.kc_convert.specs.declared.sample.Sample.{Sample}
-use Rattle.kc_convert.specs.Samples.{of_channel, up_to, last_value}
+use Rattle.kc_convert.specs.Samples.{of_channel, up_to, last_value, IsValue, AreOfFile}
 use Rattle.kc_convert.specs.Reading.{is_falling, is_twice, is_later}
 use Rattle.kc_convert.specs.Index.{IsIndexed, list_of}
 
 -- values of ten bits leave one of ten bits
-small_filter : (p : Sample → Bool) (xs : List Sample) → All (λ s. s.value ≤ 1023) xs → All (λ s. s.value ≤ 1023) (filter p xs)
+small_filter : (p : Sample → Bool) (xs : List Sample) → All IsValue xs → All IsValue (filter p xs)
 small_filter p [] all = all
 small_filter p (x ∷ xs) all = elim (cases_Bool (p x)) [
-  | inl on ↦ rw on (All-cons (λ s. s.value ≤ 1023) x (filter p xs) (all 0 x (omega arith)) (small_filter p xs (All-tail (λ s. s.value ≤ 1023) x xs all)))
-  | inr off ↦ rw off (small_filter p xs (All-tail (λ s. s.value ≤ 1023) x xs all))
+  | inl on ↦ rw on (All-cons IsValue x (filter p xs) (all 0 x (omega arith)) (small_filter p xs (All-tail IsValue x xs all)))
+  | inr off ↦ rw off (small_filter p xs (All-tail IsValue x xs all))
 ]
 
-last_small : (xs : List Sample) (v : ℕ) → v ≤ 1023 → All (λ s. s.value ≤ 1023) xs → last_value xs v ≤ 1023
+last_small : (xs : List Sample) (v : ℕ) → v ≤ 1023 → All IsValue xs → last_value xs v ≤ 1023
 last_small [] v le all = le
-last_small (x ∷ xs) v le all = last_small xs x.value (all 0 x (omega arith)) (All-tail (λ s. s.value ≤ 1023) x xs all)
+last_small (x ∷ xs) v le all = last_small xs x.value (all 0 x (omega arith)).1 (All-tail IsValue x xs all)
 
-pub value_small : (xs : List Sample) (channel t : ℕ) → All (λ s. s.value ≤ 1023) xs → last_value (up_to t (of_channel channel xs)) 0 ≤ 1023
+pub value_small : (xs : List Sample) (channel t : ℕ) → All IsValue xs → last_value (up_to t (of_channel channel xs)) 0 ≤ 1023
 value_small xs channel t all =
     last_small (up_to t (of_channel channel xs)) 0 (omega arith) (small_filter (λ s. leb s.at t) (of_channel channel xs) (small_filter (λ s. s.channel == channel) xs all))
 
@@ -60,12 +60,18 @@ next_later xs n d rise lt = not_falling (take n xs) (get_or xs n d).at (λ e som
     let le : (get_or xs (n - 1) e).at ≤ (get_or xs n e).at = rise (n - 1) n e (omega arith) lt in
     omega (arith, ap (λ s. s.at) last, ap (λ s. s.at) (get_or_default xs n e d lt)))
 
-pub indexed-push : (lists new : List (Vec Sample Global)) (xs : List Sample) (s : Sample) → IsIndexed lists xs → is_falling xs s.at ≡ false → s.value ≤ 1023 →
+-- the values of a file when one more comes
+pub of_file-push : (xs : List Sample) (s : Sample) → AreOfFile xs → is_falling xs s.at ≡ false → IsValue s → AreOfFile (xs ++ s ∷ [])
+of_file-push xs s was later value = record {
+  order = IsNonDecreasingBy-push (λ x. x.at) xs s was.order (λ d some. later_last xs (length xs - 1) s.at d (omega arith) later);
+  values = All-push IsValue xs s was.values value;
+}
+
+pub indexed-push : (lists new : List (Vec Sample Global)) (xs : List Sample) (s : Sample) → IsIndexed lists xs → is_falling xs s.at ≡ false → IsValue s →
     ((channel : ℕ) → list_of new channel ≡ (if s.channel == channel then list_of lists channel ++ s ∷ [] else list_of lists channel)) → IsIndexed new (xs ++ s ∷ [])
-indexed-push lists new xs s was later small added = record {
+indexed-push lists new xs s was later value added = record {
   lists = λ channel. added channel ∙ ap (λ l. if s.channel == channel then l ++ s ∷ [] else l) (was.lists channel) ∙ sym (of_channel-push xs s channel);
-  rise = IsNonDecreasingBy-push (λ x. x.at) xs s was.rise (λ d some. later_last xs (length xs - 1) s.at d (omega arith) later);
-  small = All-push (λ x. x.value ≤ 1023) xs s was.small small;
+  values = of_file-push xs s was.values later value;
 }
 
 -- values of a channel that come in a state

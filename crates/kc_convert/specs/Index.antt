@@ -1,9 +1,8 @@
--- What stands beside the values so that one is found by search: the values of each channel.
-use Rattle.std.specs.Prelude.{◌≡◌, ℕ, ◌≤◌, Option, Some, None, List, [], slice_get, Vec, All}
-use Rattle.std.specs.List.Sorted.{IsNonDecreasingBy}
+-- What stands beside the values so that one is found by search: the values of each channel (this kit's own).
+use Rattle.std.specs.Prelude.{◌≡◌, ℕ, Option, Some, None, List, [], slice_get, Vec}
 use Rattle.std.specs.declared.alloc.Global.{Global}
 use Rattle.kc_convert.specs.declared.sample.Sample.{Sample}
-use Rattle.kc_convert.specs.Samples.{of_channel}
+use Rattle.kc_convert.specs.Samples.{of_channel, AreOfFile}
 
 abbrev pub items_in : Option (Vec Sample Global) → List Sample
 items_in None = []
@@ -15,5 +14,4 @@ list_of lists channel = items_in (slice_get lists channel)
 
 pub record IsIndexed (by_channel : List (Vec Sample Global)) (samples : List Sample) : Type 0 where
   pub lists : (channel : ℕ) → list_of by_channel channel ≡ of_channel channel samples
-  pub rise : IsNonDecreasingBy (λ s. s.at) samples
-  pub small : All (λ s. s.value ≤ 1023) samples
+  pub values : AreOfFile samples

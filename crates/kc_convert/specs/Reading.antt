@@ -8,6 +8,7 @@ use Rattle.kc_convert.specs.declared.sample.Item.TheVariants.{Blank, Sampled, Wr
 use Rattle.kc_convert.specs.declared.fault.AnalogFault.{AnalogFault}
 use Rattle.kc_convert.specs.declared.fault.AnalogFault.TheVariants.{BadLine, NoMemory}
 use Rattle.kc_convert.specs.Lines.{item_of}
+use Rattle.kc_convert.specs.Samples.{AreOfFile}
 
 -- a line adds its value
 abbrev pub with_item : List Sample → Item → List Sample
@@ -51,3 +52,7 @@ IsRefusal bytes (BadLine line) = first_bad 0 [] (items_of bytes) ≡ Some line
 abbrev pub IsRead : List ℕ → Result (List Sample) AnalogFault → Type 0
 IsRead bytes (Ok samples) = (first_bad 0 [] (items_of bytes) ≡ None) × (samples ≡ fold with_item [] (items_of bytes))
 IsRead bytes (Err fault) = IsRefusal bytes fault
+
+-- the law: what a file gives is ten bits each of inputs that there are, in the order of times
+abbrev pub FilesGiveValues : Type 0
+FilesGiveValues = (bytes : List ℕ) (samples : List Sample) → IsRead bytes (Ok samples) → AreOfFile samples

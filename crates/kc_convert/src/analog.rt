@@ -1,8 +1,7 @@
-ghost use Rattle.std.specs.Prelude.{◌≡◌, ◌≤◌, [], All, length, IfOk, IfErr, None, fold};
-ghost use Rattle.std.specs.List.Sorted.{IsNonDecreasingBy};
+ghost use Rattle.std.specs.Prelude.{◌≡◌, ◌≤◌, [], length, IfOk, IfErr, None, fold};
 ghost use Rattle.kc_base.specs.Limits.{file_limit};
 ghost use Rattle.kc_convert.specs.Parts.{samples_in, IsWhole};
-ghost use Rattle.kc_convert.specs.Samples.{value_at};
+ghost use Rattle.kc_convert.specs.Samples.{value_at, AreOfFile};
 ghost use Rattle.kc_convert.specs.Reading.{first_bad, items_of, with_item, IsRefusal, IsRead};
 
 use crate::fault::AnalogFault;
@@ -102,8 +101,7 @@ impl Analog {
     /// The values, in the order of their times.
     pub fn samples(&self) -> &[Sample]
         ensures samples { result.now ≡ self.now }
-        ensures order { IsNonDecreasingBy (λ s. s.at) result.now }
-        ensures small { All (λ s. s.value ≤ 1023) result.now }
+        ensures values { AreOfFile result.now }
     {
         self.index.samples.as_slice()
     }

@@ -1,7 +1,7 @@
 // The values of an analogue file with what finds one among them, as they are read.
 ghost use Rattle.std.specs.Prelude.{◌≡◌, true, false, ◌≤◌, ℕ, ◌++◌, ◌∷◌, [], if◌then◌else◌, ◌==◌, IfOk, OnOk, vec_len, length, Ok};
 ghost use Rattle.std.specs.List.Sorted.{IsNonDecreasingBy};
-ghost use Rattle.kc_convert.specs.Samples.{value_at as value_of, last_value, up_to};
+ghost use Rattle.kc_convert.specs.Samples.{value_at as value_of, last_value, up_to, IsValue};
 ghost use Rattle.kc_convert.specs.Reading.{is_bad as is_at_fault, with_item, is_falling as falls, is_twice as comes_twice};
 ghost use Rattle.kc_convert.specs.Index.{IsIndexed, list_of};
 
@@ -108,7 +108,7 @@ impl Index {
     pub(crate) fn push(&mut self, alloc: Global, sample: Sample) -> Result<(), NoMemory>
         requires whole { IsWhole self.old }
         requires later { falls (samples_in self.old) sample.at ≡ false }
-        requires small { sample.value ≤ 1023 }
+        requires value { IsValue sample }
         ensures samples { OnOk result (samples_in self.new ≡ samples_in self.old ++ sample ∷ []) }
         ensures whole { OnOk result (IsWhole self.new) }
     {
@@ -120,7 +120,7 @@ impl Index {
     /// Takes what a line is; false where it is at fault.
     pub(crate) fn take(&mut self, alloc: Global, item: Item) -> Result<bool, NoMemory>
         requires whole { IsWhole self.old }
-        requires small { (s : Sample) → item ≡ Sampled s → s.value ≤ 1023 }
+        requires value { (s : Sample) → item ≡ Sampled s → IsValue s }
         ensures taken { IfOk result (λ taken. taken ≡ not (is_at_fault (samples_in self.old) item)) }
         ensures samples { result ≡ Ok true → samples_in self.new ≡ with_item (samples_in self.old) item }
         ensures whole { result ≡ Ok true → IsWhole self.new }
@@ -134,7 +134,7 @@ impl Index {
 
     fn take_sample(&mut self, alloc: Global, sample: Sample) -> Result<bool, NoMemory>
         requires whole { IsWhole self.old }
-        requires small { sample.value ≤ 1023 }
+        requires value { IsValue sample }
         ensures taken { IfOk result (λ taken. taken ≡ not (is_at_fault (samples_in self.old) (Item.Sampled sample))) }
         ensures samples { result ≡ Ok true → samples_in self.new ≡ with_item (samples_in self.old) (Item.Sampled sample) }
         ensures whole { result ≡ Ok true → IsWhole self.new }

@@ -1,3 +1,4 @@
+ghost use Rattle.kc_convert.specs.Reading.{FilesGiveValues};
 ghost use Rattle.kc_convert.specs.Converted.{ResultsAreConverted, EndsAreKnown};
 ghost use Rattle.kc_convert.specs.Pulse.{PulsesAreByWidths};
 
@@ -15,4 +16,9 @@ pub fn ends_are_known()
 /// Whatever is written, an output is high in the states of a period below the width that was written last before it.
 pub fn pulses_are_by_widths()
     ensures { PulsesAreByWidths }
+{}
+
+/// The values that a file gives are ten bits each, of inputs that there are, in the order of their times.
+pub fn files_give_values()
+    ensures { FilesGiveValues }
 {}

@@ -18,6 +18,6 @@ mod sample;
 pub use analog::Analog;
 pub use converter::Converter;
 pub use fault::AnalogFault;
-pub use laws::{ends_are_known, pulses_are_by_widths, results_are_converted};
+pub use laws::{ends_are_known, files_give_values, pulses_are_by_widths, results_are_converted};
 pub use pulses::{Output, Pulses};
-pub use sample::Sample;
+pub use sample::{CHANNEL_COUNT, Sample};

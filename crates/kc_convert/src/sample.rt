@@ -1,5 +1,8 @@
 use kc_base::StateTime;
 
+/// How many analogue inputs there are.
+pub const CHANNEL_COUNT: u8 = 8;
+
 /// A value that an analogue input takes at a state time.
 #[derive(Clone, Copy, PartialEq, Eq)]
 pub struct Sample {

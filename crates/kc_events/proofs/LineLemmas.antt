@@ -3,7 +3,7 @@ use Rattle.std.proofs.Common.{◌≡◌, ℕ, zero, suc, ◌<◌, ◌≤◌, Boo
 use Rattle.std.specs.Prelude.{codes, decimal}
 use Rattle.std.proofs.lemmas.Bool.{leb-true}
 use Rattle.std.proofs.lemmas.Fmt.{length-decimal-le}
-use Rattle.kc_base.specs.Limits.{max_states}
+use Rattle.kc_base.specs.Limits.{max_states, entry_count, transfer_count}
 use Rattle.kc_base.specs.declared.types.PtsMode.{PtsMode}
 use Rattle.kc_base.specs.declared.types.PtsMode.TheVariants as mode
 use Rattle.kc_base.specs.Pins.{pin_name}
@@ -128,9 +128,9 @@ name_short false = omega arith
 fields_short : (item : Record) → IsSound item → length (fields_of item) ≤ 255
 unfolding fields_of
 fields_short (Pin at edge) h = simp length-append (omega (arith, number_short at h.1, pin_short edge.pin.0 h.0))
-fields_short (Entered at vector back) h = let few : vector < 18 = h.1.1 in simp length-append (omega (arith, number_short at h.1.0, number_short vector (omega (arith, few))))
+fields_short (Entered at vector back) h = let few : vector < entry_count = h.1.1 in simp length-append (omega (arith, number_short at h.1.0, number_short vector (omega (arith, few))))
 fields_short (Served at vector m count) h =
-    let few : vector < 15 = h.1.1 in
+    let few : vector < transfer_count = h.1.1 in
     let least : count < 256 = h.1.2 in
     simp length-append (omega (arith, number_short at h.1.0, number_short vector (omega (arith, few)), mode_short m, number_short count (omega (arith, least))))
 fields_short (Undef what) h = simp length-append (omega (arith, number_short what.at h.1.0, number_short (kind_number what.kind) (omega (arith, kind-small what.kind))))

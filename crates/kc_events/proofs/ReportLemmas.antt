@@ -281,7 +281,7 @@ start_steps a c d left place text present none lives steps h = record {
   lines = h.lines;
   text = subst (λ t. HasText t h.lines) text h.text;
   run = subst (λ p. IsRun p h.lines) place h.run;
-  reported = h.reported ∙ (λ i. rest_at (present i) (events_ahead (none i)) (lives i) h.lines) ∙ sym (by-start d 0 [] h.lines);
+  is = h.reported ∙ (λ i. rest_at (present i) (events_ahead (none i)) (lives i) h.lines) ∙ sym (by-start d 0 [] h.lines);
 }
 
 pub start_wrong : (a : Reading) (left : Option (List ℕ)) → place_in a.reader ≡ start_place 0 → a.left ≡ left → a.count ≡ 0 → (n : ℕ) →

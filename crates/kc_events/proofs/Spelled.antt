@@ -3,7 +3,7 @@ use Rattle.std.proofs.Common.{◌≡◌, ℕ, zero, suc, ◌+◌, ◌-◌, ◌<�
 use Rattle.std.specs.Prelude.{codes, decimal}
 use Rattle.std.specs.Option.{option_map}
 use Rattle.std.proofs.Math.Seq.{take-append_seam}
-use Rattle.kc_base.specs.Limits.{max_states}
+use Rattle.kc_base.specs.Limits.{max_states, entry_count, transfer_count}
 use Rattle.hex.specs.Hex.{decode_sized}
 use Rattle.kc_base.specs.declared.types.Edge.{Edge}
 use Rattle.kc_base.specs.declared.types.Kind.{Kind}
@@ -138,17 +138,17 @@ pin-line at edge is early =
     let level = ap level_of (ap rest_of behind ∙ word-after (pin_name edge.pin.0) (level_digit edge.level ∷ []) name) ∙ level-read edge.level in
     λ i. pin_with (time i) (pin i) (level i)
 
-entered-line : (at vector back : ℕ) → at ≤ max_states → vector < 18 → back < 65536 → entered_record (decimal at ++ 32 ∷ (decimal vector ++ 32 ∷ hex 4 back)) ≡ Some (Entered at vector back)
+entered-line : (at vector back : ℕ) → at ≤ max_states → vector < entry_count → back < 65536 → entered_record (decimal at ++ 32 ∷ (decimal vector ++ 32 ∷ hex 4 back)) ≡ Some (Entered at vector back)
 entered-line at vector back early few small =
     let rest : List ℕ = decimal vector ++ 32 ∷ hex 4 back in
     let behind = behind-time at rest early in
     let w = byte-word vector (omega (arith, few)) in
     let time = time-read at rest early in
-    let number = ap entry_number (ap first_of behind ∙ word-before (decimal vector) (hex 4 back) w) ∙ number-read 17 vector (omega (arith, few)) (omega (arith, few)) in
+    let number = ap entry_number (ap first_of behind ∙ word-before (decimal vector) (hex 4 back) w) ∙ number-read (entry_count - 1) vector (omega (arith, few)) (omega (arith, few)) in
     let address = ap word_of (ap rest_of behind ∙ word-after (decimal vector) (hex 4 back) w) ∙ word-read back small in
     λ i. entered_with (time i) (number i) (address i)
 
-served-line : (at vector : ℕ) (m : PtsMode) (count : ℕ) → at ≤ max_states → vector < 15 → count < 256 →
+served-line : (at vector : ℕ) (m : PtsMode) (count : ℕ) → at ≤ max_states → vector < transfer_count → count < 256 →
     served_record (decimal at ++ 32 ∷ (decimal vector ++ 32 ∷ (mode_name m ++ 32 ∷ decimal count))) ≡ Some (Served at vector m count)
 served-line at vector m count early few least =
     let last : List ℕ = mode_name m ++ 32 ∷ decimal count in
@@ -156,7 +156,7 @@ served-line at vector m count early few least =
     let behind = behind-time at rest early in
     let w = byte-word vector (omega (arith, few)) in
     let time = time-read at rest early in
-    let number = ap transfer_number (ap first_of behind ∙ word-before (decimal vector) last w) ∙ number-read 14 vector (omega (arith, few)) (omega (arith, few)) in
+    let number = ap transfer_number (ap first_of behind ∙ word-before (decimal vector) last w) ∙ number-read (transfer_count - 1) vector (omega (arith, few)) (omega (arith, few)) in
     let third = ap rest_of behind ∙ word-after (decimal vector) last w in
     let how = ap mode_of (ap first_of third ∙ word-before (mode_name m) (decimal count) (mode-word m)) ∙ mode-read m in
     let left = ap byte_number (ap rest_of third ∙ word-after (mode_name m) (decimal count) (mode-word m)) ∙ number-byte count least in

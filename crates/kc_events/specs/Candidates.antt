@@ -1,5 +1,5 @@
 -- Which record a line can be at all: if it is the line of a record, then of this one. Whether it is, spelling the record reports.
-use Rattle.std.specs.Prelude.{ℕ, ◌==◌, nat_lt, if◌then◌else◌, Bool, false, Option, Some, None, Result, Ok, Err, List, [], ◌∷◌}
+use Rattle.std.specs.Prelude.{ℕ, ◌-◌, ◌==◌, nat_lt, if◌then◌else◌, Bool, false, Option, Some, None, Result, Ok, Err, List, [], ◌∷◌}
 use Rattle.std.specs.Option.{option_map}
 use Rattle.hex.specs.declared.error.FromHexError.{FromHexError}
 use Rattle.hex.specs.Hex.{decode_sized}
@@ -9,6 +9,7 @@ use Rattle.kc_base.specs.declared.types.Level.{Level}
 use Rattle.kc_base.specs.declared.types.Level.TheVariants.{Low, High}
 use Rattle.kc_base.specs.declared.types.PtsMode.{PtsMode}
 use Rattle.kc_base.specs.declared.types.PtsMode.TheVariants as mode
+use Rattle.kc_base.specs.Limits.{entry_count, transfer_count}
 use Rattle.kc_base.specs.Fields.{decimal_of, time_of, first_of, rest_of, word_of, byte_of, pin_of}
 use Rattle.kc_trace.specs.declared.record.Record.{Record}
 use Rattle.kc_trace.specs.declared.record.Record.TheVariants.{Pin, Entered, Served, Undef, Stopped, Pc, Psw, Wsr, Registers}
@@ -18,12 +19,12 @@ use Rattle.kc_trace.specs.declared.record.Record.TheVariants.{Pin, Entered, Serv
 abbrev pub byte_number : List ℕ → Option ℕ
 byte_number text = decimal_of 255 text
 
--- a vector that may be entered, and one that the transfer server may serve
+-- a request that may be entered, and one that the transfer server may serve
 abbrev pub entry_number : List ℕ → Option ℕ
-entry_number text = decimal_of 17 text
+entry_number text = decimal_of (entry_count - 1) text
 
 abbrev pub transfer_number : List ℕ → Option ℕ
-transfer_number text = decimal_of 14 text
+transfer_number text = decimal_of (transfer_count - 1) text
 
 abbrev pub level_of : List ℕ → Level
 level_of [] = Low

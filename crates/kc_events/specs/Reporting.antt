@@ -33,12 +33,16 @@ pub record AreToCome (t : Reporting) (steps : List Seen) : Type 0 where
   pub run : IsRun (place_in t.trace.reader) lines
   pub reported : steps ≡ steps_to_come (running_in t.course) lines
 
--- the text is that of a whole trace, and these are its steps
-pub record AreStepsOf (d : Drives) (left : Option (List ℕ)) (steps : List Seen) : Type 0 where
+-- the text is that of the lines of a run, of which this holds
+pub record IsOfRun (left : Option (List ℕ)) (holds : List Line → Type 0) : Type 0 where
   pub lines : List Line
   pub text : HasText left lines
   pub run : IsRun (start_place 0) lines
-  pub reported : steps ≡ steps_of d lines
+  pub is : holds lines
+
+-- the text is that of the lines of a run, and these are its steps
+abbrev pub AreStepsOf : Drives → Option (List ℕ) → List Seen → Type 0
+AreStepsOf d left steps = IsOfRun left (λ lines. steps ≡ steps_of d lines)
 
 -- so many lines more were asked for
 unfoldable pub count_with : ℕ → List Line → ℕ
@@ -109,3 +113,23 @@ pub record HasRead (old new : Reporting) : Type 0 where
   pub steps : (steps : List Seen) → AreToCome new steps → AreToCome old steps
   pub wrong : (line : ℕ) → IsFirstWrongIn (place_in new.trace.reader) new.trace.left new.trace.count line → IsFirstWrongIn (place_in old.trace.reader) old.trace.left old.trace.count line
   pub calm : new.trace.faults ≡ old.trace.faults
+
+-- ---- what is answered of a run that was to be read to its end
+
+-- of a text, where the source reports it: what holds of the answer and the lines of its run, or the first line that no board prints
+-- there
+abbrev pub IsRunAnswer : {A : Type 0} → (A → List Line → Type 0) → Option (List ℕ) → Result A LivesFault → Type 0
+IsRunAnswer holds left (Ok answer) = IsOfRun left (holds answer)
+IsRunAnswer holds left (Err (BadTrace line)) = IsFirstWrongIn (start_place 0) left 0 line
+IsRunAnswer holds left (Err Failed) = Unit {0}
+IsRunAnswer holds left (Err NoMemory) = Unit {0}
+
+-- what holds of the line that no board prints, where that is the fault
+abbrev pub IfWrong : {A : Type 0} → Result A LivesFault → (ℕ → Type 0) → Type 0
+IfWrong (Err (BadTrace line)) P = P line
+IfWrong _ P = Unit {0}
+
+-- the faults of a source, which counts one where it is the fault
+abbrev pub Counts : {A : Type 0} → ℕ → Result A LivesFault → ℕ → Type 0
+Counts before (Err Failed) now = Rose before now
+Counts before _ now = now ≡ before

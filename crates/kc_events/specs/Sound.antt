@@ -1,18 +1,18 @@
 -- Which records a run may have (80C196KC User's Manual, "Interrupts", "Peripheral Transaction Server"; the bound of states is this
 -- kit's own).
 use Rattle.std.specs.Prelude.{◌≡◌, ◌<◌, ◌≤◌, length}
-use Rattle.kc_base.specs.Limits.{max_states}
+use Rattle.kc_base.specs.Limits.{max_states, entry_count, transfer_count}
 use Rattle.kc_base.specs.Bytes.{IsBytes}
 use Rattle.kc_trace.specs.declared.record.Record.{Record}
 use Rattle.kc_trace.specs.declared.record.Record.TheVariants.{Pin, Entered, Served, Undef, Stopped, Pc, Psw, Wsr, Registers}
 use Rattle.kc_trace.specs.Printable.{CanPrint}
 
--- The numbers of a record are those of a run: 10^15 states, the 16 requests with TRAP and the opcode that no instruction has, the 15
--- requests that the transfer server serves, eight bits, sixteen bits, 32 bytes.
+-- The numbers of a record are those of a run: states up to 10^15, requests that may be entered, requests that the transfer server may
+-- serve, eight bits, sixteen bits, 32 bytes.
 abbrev pub HasWidths : Record → Type 0
 HasWidths (Pin at edge) = at ≤ max_states
-HasWidths (Entered at vector back) = (at ≤ max_states) × (vector < 18) × (back < 65536)
-HasWidths (Served at vector mode count) = (at ≤ max_states) × (vector < 15) × (count < 256)
+HasWidths (Entered at vector back) = (at ≤ max_states) × (vector < entry_count) × (back < 65536)
+HasWidths (Served at vector mode count) = (at ≤ max_states) × (vector < transfer_count) × (count < 256)
 HasWidths (Undef what) = (what.at ≤ max_states) × (what.addr < 65536)
 HasWidths (Stopped at how) = at ≤ max_states
 HasWidths (Pc value) = value < 65536

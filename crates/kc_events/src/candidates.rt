@@ -9,7 +9,8 @@ ghost use Rattle.kc_events.specs.Sound.{IsSound};
 
 use crate::fields::{base, end, kind, level, mode, number};
 use kc_base::{
-    Edge, Pin, Undefined, hex_byte, hex_word, pin_number, prefix, split_at_space, state_time,
+    ENTRY_COUNT, Edge, Pin, TRANSFER_COUNT, Undefined, hex_byte, hex_word, pin_number, prefix,
+    split_at_space, state_time,
 };
 use kc_trace::{Record, line as line_of};
 
@@ -35,7 +36,7 @@ fn entered_record(text: &[u8]) -> Option<Record>
     let (first, rest) = split_at_space(text);
     let (second, third) = split_at_space(rest);
     let at = state_time(first)?;
-    let vector = number(17, second)?;
+    let vector = number(ENTRY_COUNT - 1, second)?;
     let back = hex_word(third)?;
     Some(Record::Entered { at, vector, back })
 }
@@ -48,7 +49,7 @@ fn served_record(text: &[u8]) -> Option<Record>
     let (second, rest) = split_at_space(rest);
     let (third, fourth) = split_at_space(rest);
     let at = state_time(first)?;
-    let vector = number(14, second)?;
+    let vector = number(TRANSFER_COUNT - 1, second)?;
     let mode = mode(third);
     let count = number(255, fourth)?;
     Some(Record::Served {

@@ -103,10 +103,10 @@ module _ (trace rules : List ℕ) (inputs : List (Role × List ℕ)) (clock : �
   pub run-checked : (left : Option (List ℕ)) (result : Result Verdict LivesFault) (given : Result Job Refusal) → rules_of rules clock text ≡ Ok book → drives_of (given_for inputs more).stimuli ≡ Ok drives →
       verdicts.IsChecked rules text book drives left result → (result ≡ Err Failed → rose) → IsVerdictJob trace result given → IsChecked left May given
   run-checked (Some printed) (Ok verdict) given e k h failed is =
-      subst (λ g. IsPrepared (May printed) g) (sym is) (verdict-answer printed h.lines verdict e k h.spelled h.run h.answer, tt)
+      subst (λ g. IsPrepared (May printed) g) (sym is) (verdict-answer printed h.lines verdict e k h.text h.run h.is, tt)
   run-checked None (Ok verdict) given e k h failed is =
       let some = some_run h.lines h.run in
-      (some.0, subst (λ g. IsPrepared (May some.0) g) (sym is) (verdict-answer some.0 h.lines verdict e k some.1 h.run h.answer, tt))
+      (some.0, subst (λ g. IsPrepared (May some.0) g) (sym is) (verdict-answer some.0 h.lines verdict e k some.1 h.run h.is, tt))
   run-checked (Some printed) (Err (BadTrace line)) given e k h failed is =
       prepared-widen (λ response. response ≡ unkept_response trace line (codes "BADTRACE")) (May printed) given (wrong-answer printed line e k h) is
   run-checked None (Err (BadTrace line)) given e k h failed is =

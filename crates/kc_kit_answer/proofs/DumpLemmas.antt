@@ -61,10 +61,10 @@ module _ (trace : List ℕ) (inputs : List (Role × List ℕ)) (out : List ℕ) 
   pub run-dumped : (left : Option (List ℕ)) (result : Result (Vec ℕ) LivesFault) (given : Result Job Refusal) → driving_of (given_for inputs texts) ≡ Ok driving →
       IsDumped clock driving.stimuli driving.values left result → (result ≡ Err Failed → rose) → IsDumpJob trace out result given → IsChecked left May given
   run-dumped (Some printed) (Ok dump) given e h failed is =
-      prepared-widen (λ response. response ≡ done_writing (write out dump.items ∷ [])) (May printed) given (dump-answer printed dump.items h.lines e h.spelled h.run h.dump) is
+      prepared-widen (λ response. response ≡ done_writing (write out dump.items ∷ [])) (May printed) given (dump-answer printed dump.items h.lines e h.text h.run h.is) is
   run-dumped None (Ok dump) given e h failed is =
       let some = some_run h.lines h.run in
-      (some.0, prepared-widen (λ response. response ≡ done_writing (write out dump.items ∷ [])) (May some.0) given (dump-answer some.0 dump.items h.lines e some.1 h.run h.dump) is)
+      (some.0, prepared-widen (λ response. response ≡ done_writing (write out dump.items ∷ [])) (May some.0) given (dump-answer some.0 dump.items h.lines e some.1 h.run h.is) is)
   run-dumped (Some printed) (Err (BadTrace line)) given e h failed is =
       prepared-widen (λ response. response ≡ unkept_response trace line (codes "BADTRACE")) (May printed) given (wrong-answer printed line e h) is
   run-dumped None (Err (BadTrace line)) given e h failed is =

@@ -1,5 +1,6 @@
 // The real files and standard input, read piece by piece. They report nothing of what they hold: only their faults are counted.
-ghost use Rattle.std.specs.Prelude.{◌≡◌, ◌≢◌, None, Ok, Err, codes};
+ghost use Rattle.std.specs.Prelude.{◌≡◌, ◌≢◌, ◌≤◌, None, Ok, Err, IfOk, IsOkAnd, codes};
+ghost use Rattle.kc_base.specs.Causes.{Rose};
 ghost use Rattle.kc_kit_streams.specs.declared.host_reader.HostReader.TheVariants as reader;
 
 use crate::counted::Counted;
@@ -100,7 +101,18 @@ fn opened<R: FileSystem, I: Read + Drop>(
 impl<'a, R: FileSystem + RandomSource, I: Read + Copy + Drop> Streams for HostStreams<'a, R, I> {
     type Stream = Counted<HostInput<HostReader<I, R::File>>>;
 
-    fn open(&mut self, _alloc: Global, name: &str) -> Result<Self::Stream, FileFault> {
+    // (What stands under a name, no contract can say. Standard input is there whatever the system holds.)
+    fn open(&mut self, _alloc: Global, name: &str) -> Result<Self::Stream, FileFault>
+        ensures input { name.now ≡ codes "-" → IsOkAnd result (λ stream. stream.source.input ≡ reader.Input self.old.input) }
+        ensures file { name.now ≢ codes "-" → IfOk result (λ stream. stream.source.input ≢ reader.Input self.old.input) }
+        ensures fresh { IfOk result (λ stream. stream.faults ≡ 0) }
+        ensures not_long { result ≢ Err FileFault.TooLong }
+        ensures failed { result ≡ Err FileFault.Failed → Rose self.old.read_faults self.new.read_faults }
+        ensures calm { result ≢ Err FileFault.Failed → self.new.read_faults ≡ self.old.read_faults }
+        ensures later { self.old.read_faults ≤ self.new.read_faults }
+        ensures no_write { self.new.write_faults ≡ self.old.write_faults }
+        ensures same { (self.new.input ≡ self.old.input) × (self.new.files ≡ self.old.files) }
+    {
         match opened(self.system, self.input, name) {
             Ok(reader) => Ok(Counted::new(HostInput::new(reader))),
             Err(FileFault::Failed) => {

@@ -1,20 +1,10 @@
 // Files in memory, read piece by piece.
-ghost use Rattle.std.specs.Prelude.{◌≡◌, ◌≤◌, Some, take, drop, length, min, vec_len};
+ghost use Rattle.std.specs.Prelude.{◌≤◌, Some, drop, vec_len};
 
 use crate::streams::Streams;
 use kc_base::{FileFault, Files, MemFiles};
-use kc_byte_source::{Failed, Source};
+use kc_byte_source::{Failed, Source, copy_prefix};
 use std::alloc::Global;
-
-// Copies the front of a text to the front of the room, and says how many bytes.
-fn copy_front(room: &mut [u8], text: &[u8]) -> usize
-    ensures count { result ≡ min (length room.old) (length text.now) }
-    ensures bytes { take result room.new ≡ take result text.now }
-{
-    let count = room.len().min(text.len());
-    room[..count].copy_from_slice(&text[..count]);
-    count
-}
 
 /// Bytes in memory, given in order. No read of them fails.
 #[derive(Drop)]
@@ -30,7 +20,7 @@ impl Source for MemStream {
     ghost faults = { λ _. 0 };
 
     fn read(&mut self, room: &mut [u8]) -> Result<usize, Failed> {
-        let count = copy_front(room, &self.bytes[self.at..]);
+        let count = copy_prefix(room, &self.bytes[self.at..], room.len());
         self.at += count;
         Ok(count)
     }
@@ -39,7 +29,7 @@ impl Source for MemStream {
 impl Streams for MemFiles {
     type Stream = MemStream;
 
-    // (A file in memory that is longer than files may be is not opened: that counts as a want of memory.)
+    // (A file in memory that is longer than files may be is not opened: that counts as out of memory.)
     fn open(&mut self, alloc: Global, name: &str) -> Result<MemStream, FileFault> {
         match self.read(alloc, name) {
             Ok(bytes) => Ok(MemStream { bytes, at: 0 }),

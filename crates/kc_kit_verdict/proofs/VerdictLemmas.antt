@@ -11,7 +11,7 @@ use Rattle.kc_events.specs.declared.lives.LivesFault.TheVariants.{BadTrace, Fail
 use Rattle.kc_events.specs.Grammar.{start_place}
 use Rattle.kc_events.specs.Lives.{lives_of}
 use Rattle.kc_events.specs.Steps.{Seen}
-use Rattle.kc_events.specs.Reporting.{Reporting, AreToCome, AreStepsOf, IsFirstWrongIn, IsWrongAt}
+use Rattle.kc_events.specs.Reporting.{Reporting, AreToCome, AreStepsOf, IsFirstWrongIn, IsWrongAt, IfWrong, Counts}
 use Rattle.kc_monitor.specs.declared.monitor.Monitor.{Monitor}
 use Rattle.kc_monitor.specs.declared.watch.Watch.{Watch}
 use Rattle.kc_monitor.specs.Verdicts.{verdict_of, is_broken}
@@ -20,7 +20,7 @@ use Rattle.kc_monitor.specs.Watches.{IsNew}
 use Rattle.kc_kit_verdict.specs.declared.verdict.Verdict.{Verdict}
 use Rattle.kc_kit_verdict.specs.Runs.{count_lives, tally_in, broken_in, diagnostics}
 use Rattle.kc_kit_verdict.specs.Watched.{HasWatched, HaveSeen}
-use Rattle.kc_kit_verdict.specs.Verdicts.{is_any, IsRunVerdict, IsChecked, IfWrong, Counts, verdicts_by, broken_by, IsVerdict, said_of, IsPassedOn}
+use Rattle.kc_kit_verdict.specs.Verdicts.{is_any, IsChecked, verdicts_by, broken_by, IsVerdict, said_of, IsPassedOn}
 use Rattle.kc_kit_verdict.proofs.RunLemmas.{runs_are_seen, rules_stay}
 
 -- ---- rule by rule
@@ -142,9 +142,9 @@ broken_seen book count lives (rule ∷ rules) (m ∷ monitors) h =
 -- ---- the run of a source
 
 run_verdict : (name text : List ℕ) (book : Book) (drives : Drives) (left : Option (List ℕ)) (v w : Watch) (steps : List Seen) (verdict : Verdict) → IsNew book.marks book.rules v → AreStepsOf drives left steps →
-    HasWatched v steps w → IsVerdict name text w.rules.rules w.monitors.items verdict → IsRunVerdict name text book drives left verdict
+    HasWatched v steps w → IsVerdict name text w.rules.rules w.monitors.items verdict → IsChecked name text book drives left (Ok verdict)
 run_verdict name text book drives left v w steps verdict new are watched is =
-    let seen = runs_are_seen book drives are.lines v w are.run new (subst (λ all. HasWatched v all w) are.reported watched) in
+    let seen = runs_are_seen book drives are.lines v w are.run new (subst (λ all. HasWatched v all w) are.is watched) in
     let rules : w.rules.rules ≡ book.rules = ap (λ b. b.rules) (rules_stay steps v w watched) ∙ new.rules_are in
     let count = count_lives are.lines in
     let lives = lives_of drives are.lines in
@@ -152,9 +152,9 @@ run_verdict name text book drives left v w steps verdict new are watched is =
     ap (λ (rs : List Rule). broken_by rs w.monitors.items) rules ∙ broken_seen book count lives book.rules w.monitors.items seen in
     record {
       lines = are.lines;
-      spelled = are.text;
+      text = are.text;
       run = are.run;
-      answer = record {
+      is = record {
         printed = is.printed ∙ ap (λ (rs : List Rule). verdicts_by rs w.monitors.items) rules ∙ verdicts_seen book count lives book.rules w.monitors.items seen;
         said = is.said ∙ ap (diagnostics name text) broken;
         broken = is.broken ∙ ap is_any broken;

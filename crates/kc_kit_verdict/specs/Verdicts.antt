@@ -1,15 +1,13 @@
 -- The verdict of a run that a source gives (this kit's own).
 use Rattle.std.specs.Prelude.{◌≡◌, ℕ, ◌++◌, if◌then◌else◌, Bool, true, false, Option, Result, Ok, Err, List, [], ◌∷◌}
-use Rattle.kc_base.specs.Causes.{Rose}
 use Rattle.kc_stim.specs.Drives.{Drives}
 use Rattle.kc_rules.specs.declared.rule.Rule.{Rule}
 use Rattle.kc_rules.specs.Lines.{Book}
 use Rattle.kc_events.specs.declared.line.Line.{Line}
 use Rattle.kc_events.specs.declared.lives.LivesFault.{LivesFault}
-use Rattle.kc_events.specs.declared.lives.LivesFault.TheVariants.{BadTrace, Failed, NoMemory}
-use Rattle.kc_events.specs.Grammar.{start_place, IsRun}
+use Rattle.kc_events.specs.declared.lives.LivesFault.TheVariants.{NoMemory}
 use Rattle.kc_events.specs.Lives.{lives_of}
-use Rattle.kc_events.specs.Reporting.{HasText, IsFirstWrongIn}
+use Rattle.kc_events.specs.Reporting.{IsRunAnswer}
 use Rattle.kc_monitor.specs.declared.monitor.Monitor.{Monitor}
 use Rattle.kc_monitor.specs.Verdicts.{verdict_of, is_broken}
 use Rattle.kc_monitor_forms.specs.declared.tally.Tally.{Tally}
@@ -29,29 +27,9 @@ pub record IsVerdictOf (name text : List ℕ) (book : Book) (drives : Drives) (l
   pub said : verdict.diagnostic.items ≡ diagnostics name text (broken_in book (lives_of drives lines))
   pub broken : verdict.is_broken ≡ is_any (broken_in book (lives_of drives lines))
 
--- the text is that of the lines of a run, and this is its verdict
-pub record IsRunVerdict (name text : List ℕ) (book : Book) (drives : Drives) (left : Option (List ℕ)) (verdict : Verdict) : Type 0 where
-  pub lines : List Line
-  pub spelled : HasText left lines
-  pub run : IsRun (start_place 0) lines
-  pub answer : IsVerdictOf name text book drives lines verdict
-
--- what is answered of a text, where the source reports it: the verdict of its run, or the first line that no board prints there
+-- of a text, where the source reports it: the verdict of its run, or the first line that no board prints there
 abbrev pub IsChecked : List ℕ → List ℕ → Book → Drives → Option (List ℕ) → Result Verdict LivesFault → Type 0
-IsChecked name text book drives left (Ok verdict) = IsRunVerdict name text book drives left verdict
-IsChecked name text book drives left (Err (BadTrace line)) = IsFirstWrongIn (start_place 0) left 0 line
-IsChecked name text book drives left (Err Failed) = Unit {0}
-IsChecked name text book drives left (Err NoMemory) = Unit {0}
-
--- what holds of the line that no board prints, where that is the fault
-abbrev pub IfWrong : {A : Type 0} → Result A LivesFault → (ℕ → Type 0) → Type 0
-IfWrong (Err (BadTrace line)) P = P line
-IfWrong _ P = Unit {0}
-
--- the faults of a source, which counts one where it is the fault
-abbrev pub Counts : {A : Type 0} → ℕ → Result A LivesFault → ℕ → Type 0
-Counts before (Err Failed) now = Rose before now
-Counts before _ now = now ≡ before
+IsChecked name text book drives left result = IsRunAnswer (λ verdict lines. IsVerdictOf name text book drives lines verdict) left result
 
 -- what is given where rules were to watch a run: a verdict, or memory ran out; or the fault that has ended it
 abbrev pub IsPassedOn : {A : Type 0} → Result A LivesFault → (Verdict → Type 0) → Result Verdict LivesFault → Type 0

@@ -1,6 +1,7 @@
 // The run of a trace, checked by rules.
 ghost use Rattle.std.specs.Prelude.{IfOk};
-ghost use Rattle.kc_kit_verdict.specs.Verdicts.{IsChecked, IsVerdict, IsPassedOn, Counts};
+ghost use Rattle.kc_events.specs.Reporting.{Counts};
+ghost use Rattle.kc_kit_verdict.specs.Verdicts.{IsChecked, IsVerdict, IsPassedOn};
 
 use crate::verdict::{Verdict, verdict_of};
 use crate::watching::watch_run;

@@ -2,9 +2,8 @@
 ghost use Rattle.std.specs.Prelude.{◌≡◌, None, List, OnOk};
 ghost use Rattle.kc_events.specs.Steps.{Seen};
 ghost use Rattle.kc_events.specs.Underway.{seen_by};
-ghost use Rattle.kc_events.specs.Reporting.{AreToCome, IsWrongAt};
+ghost use Rattle.kc_events.specs.Reporting.{AreToCome, IsWrongAt, IfWrong, Counts};
 ghost use Rattle.kc_kit_verdict.specs.Watched.{IsWatched, HasWatched};
-ghost use Rattle.kc_kit_verdict.specs.Verdicts.{IfWrong, Counts};
 
 use kc_base::NoMemory;
 use kc_byte_source::Source;

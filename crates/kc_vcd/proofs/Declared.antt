@@ -8,7 +8,9 @@ use Rattle.kc_stim.specs.Drives.{Drives}
 use Rattle.kc_convert.specs.declared.sample.Sample.{Sample}
 use Rattle.kc_vcd.specs.declared.variable.Variable.{Variable}
 use Rattle.kc_vcd.specs.declared.variable.Variable.TheVariants.{Wire, Analog, Entry, Transfer, Undefined, Life}
-use Rattle.kc_vcd.specs.Variables.{IsVariable, output_at, outputs, is_shown_input, input_at, inputs, has_value, channel_at, channels, entries, transfers, channel_count, entry_count, transfer_count, variables_of}
+use Rattle.kc_base.specs.Limits.{entry_count, transfer_count}
+use Rattle.kc_convert.specs.Samples.{channel_count}
+use Rattle.kc_vcd.specs.Variables.{IsVariable, output_at, outputs, is_shown_input, input_at, inputs, has_value, channel_at, channels, entries, transfers, variables_of}
 use Rattle.kc_vcd.proofs.Pieces.{pieces-more}
 
 one : (v : Variable) → IsVariable v → All IsVariable (v ∷ [])

@@ -127,7 +127,7 @@ decimal_short n small = decimal_by_steps (λ m ds. m < 20 → ds ≡ short m)
     (λ m less few. rw (lt-ltb m 10 less) refl)
     (λ m ds more h few.
     let one : m / 10 ≡ 1 = omega (arith, few, more) in
-    ap (λ (front : List ℕ). front ++ (48 + m % 10) ∷ []) (h (omega (arith, one)) ∙ ap short one) ∙ rw (le-ltb m 10 more) refl)
+    ap (λ (digits : List ℕ). digits ++ (48 + m % 10) ∷ []) (h (omega (arith, one)) ∙ ap short one) ∙ rw (le-ltb m 10 more) refl)
     n (omega (arith, small)) small
 
 -- the name of the variable of a number

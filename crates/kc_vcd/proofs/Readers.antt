@@ -14,7 +14,8 @@ use Rattle.kc_vcd.specs.declared.change.Change.{Change}
 use Rattle.kc_vcd.specs.declared.change.Change.TheVariants.{Moves, Takes, Happens, Unseen}
 use Rattle.kc_vcd.specs.declared.variable.Variable.{Variable}
 use Rattle.kc_vcd.specs.declared.variable.Variable.TheVariants.{Wire, Analog}
-use Rattle.kc_vcd.specs.Variables.{number_of, code_of, signal_number, channel_count}
+use Rattle.kc_convert.specs.Samples.{channel_count}
+use Rattle.kc_vcd.specs.Variables.{number_of, code_of, signal_number}
 use Rattle.kc_vcd.specs.Dump.{digits, significant}
 use Rattle.kc_vcd.specs.Reader.{word, digit_level, level_by, value_by, count_by, binary_value}
 use Rattle.kc_vcd.specs.Laws.{IsKnown, IsKnownChange}

@@ -7,9 +7,9 @@ use Rattle.kc_events.specs.declared.lives.LivesFault.{LivesFault}
 use Rattle.kc_events.specs.declared.lives.LivesFault.TheVariants.{BadTrace, Failed, NoMemory}
 use Rattle.kc_events.specs.Grammar.{start_place}
 use Rattle.kc_events.specs.Steps.{Seen}
-use Rattle.kc_events.specs.Reporting.{Reporting, AreToCome, AreStepsOf, IsBehind, IsFirstWrongIn, IsWrongAt}
+use Rattle.kc_events.specs.Reporting.{Reporting, AreToCome, AreStepsOf, IsBehind, IsFirstWrongIn, IsWrongAt, IfWrong}
 use Rattle.kc_vcd.specs.Dump.{shown_of, dump_of}
-use Rattle.kc_vcd.specs.Dumped.{IsDumped, IfWrong, Counts}
+use Rattle.kc_vcd.specs.Dumped.{IsDumped}
 use Rattle.kc_vcd.specs.Writing.{Kept, shown_in, Written, start_of, with_steps, HasReported}
 use Rattle.kc_vcd.proofs.Written.{reported_none, reported_more}
 
@@ -52,17 +52,7 @@ pub run_dumped : (clock : ℕ) (drives : Drives) (samples : List Sample) (left :
     IfOk result (λ text. (steps : List Seen) × AreToCome t steps × (text.items ≡ dump_of (shown_in shown) steps)) → IfWrong result (IsWrongAt t) → IsDumped clock drives samples left result
 run_dumped clock drives samples left t shown (Ok dump) is start wrong all fault =
     let are = start all.0 all.1 in
-    record { lines = are.lines; spelled = are.text; run = are.run; dump = all.2 ∙ (λ i. dump_of (is i) (are.reported i)) }
+    record { lines = are.lines; text = are.text; run = are.run; is = all.2 ∙ (λ i. dump_of (is i) (are.is i)) }
 run_dumped clock drives samples left t shown (Err (BadTrace line)) is start wrong all fault = wrong line fault
 run_dumped clock drives samples left t shown (Err Failed) is start wrong all fault = tt
 run_dumped clock drives samples left t shown (Err NoMemory) is start wrong all fault = tt
-
--- the source that comes back has counted the same
-pub faults_given : {A : Type 0} (source before now given : ℕ) (result : Result A LivesFault) → before ≡ source → given ≡ now → Counts before result now → Counts source result given
-faults_given source before now given result first last h = subst (λ n. Counts source result n) (sym last) (subst (λ n. Counts n result now) first h)
-
--- a fault is that of another answer too
-pub fault_counted : {A : Type 0} (B : Type 0) (before now : ℕ) (fault : LivesFault) (result : Result A LivesFault) → result ≡ Err fault → Counts before result now → Counts {A = B} before (Err fault) now
-fault_counted B before now (BadTrace line) result is h = subst (λ r. Counts before r now) is h
-fault_counted B before now Failed result is h = subst (λ r. Counts before r now) is h
-fault_counted B before now NoMemory result is h = subst (λ r. Counts before r now) is h

@@ -17,7 +17,7 @@ use Rattle.kc_vcd.specs.declared.change.Change.TheVariants.{Moves, Happens}
 use Rattle.kc_vcd.specs.declared.variable.Variable.{Variable}
 use Rattle.kc_vcd.specs.declared.variable.Variable.TheVariants.{Wire, Analog, Entry, Transfer, Undefined}
 use Rattle.kc_vcd.specs.declared.variable.Variable.TheVariants as variable
-use Rattle.kc_vcd.specs.Variables.{entry_count, transfer_count}
+use Rattle.kc_base.specs.Limits.{entry_count, transfer_count}
 use Rattle.kc_vcd.specs.Changes.{Timed, change_by, differences, all_at, later, behind, changes_by}
 use Rattle.kc_vcd.specs.Laws.{IsKnownChange, is_happening, count_among}
 use Rattle.kc_vcd.specs.Runs.{begin_of, is_entry, is_transfer, count_in}

@@ -51,7 +51,7 @@ run_sound run is =
     let known = shown_known run.drives run.samples in
     record {
       variables = known;
-      changes = timed_known run.samples (end_by 0 (steps_in run)) (changes_by vs true 0 start (steps_in run)) (are_samples run.samples is.small is.channels) (end_few 0 (steps_in run) (omega arith))
+      changes = timed_known run.samples (end_by 0 (steps_in run)) (changes_by vs true 0 start (steps_in run)) (are_samples run.samples is.values.values) (end_few 0 (steps_in run) (omega arith))
           (subst (λ steps. AreKnown (changes_by vs true 0 start steps)) (sym (steps_spans run.drives 0 [] run.lines)) (spans_known vs true 0 start run.drives 0 (spans_in run) known (omega arith) (spans_sound run is)));
       goes = length_some run.clock is.goes is.slow;
       slow = div-le_self 2000000000000 run.clock;
@@ -84,7 +84,7 @@ run_values run count t channel life is there less has =
     let end_spans = spans_end run.drives (spans_in run) 0 0 count t time life (spans_sound run is) refl (omega arith) (life_there run count t life there) there.state (time_there run count t) in
     let end : time < end_by 0 (steps_in run) = subst (λ steps. time < end_by 0 steps) (sym (steps_spans run.drives 0 [] run.lines)) end_spans in
     shown_changes.values (shown_in_run run) (steps_in run) channel time (run_sound run is) (channel_there run.drives run.samples channel less has)
-    ∙ ap (λ n. Some n) (value_timed channel time (end_by 0 (steps_in run)) run.samples (changes_by vs true 0 start (steps_in run)) is.order end (steps_none vs true 0 start (steps_in run)))
+    ∙ ap (λ n. Some n) (value_timed channel time (end_by 0 (steps_in run)) run.samples (changes_by vs true 0 start (steps_in run)) is.values.order end (steps_none vs true 0 start (steps_in run)))
 
 event_counts : (run : Run) (count t : ℕ) (life : Life) (event : Variable) (wanted : What → Bool) → IsShownRun run → IsIn count life t run → IsEvent event → Member event (variables_of run.drives run.samples) → Shows event wanted →
     count_described (dump_for run) (time_of count t run) (name_of event) ≡ Some (count_in wanted t life)

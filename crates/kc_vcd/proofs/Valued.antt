@@ -10,7 +10,7 @@ use Rattle.kc_events.specs.Steps.{Seen, Begins, Passes, Ends}
 use Rattle.kc_vcd.specs.declared.change.Change.{Change}
 use Rattle.kc_vcd.specs.declared.change.Change.TheVariants.{Takes, Unseen}
 use Rattle.kc_vcd.specs.declared.variable.Variable.{Variable}
-use Rattle.kc_vcd.specs.Variables.{channel_count}
+use Rattle.kc_convert.specs.Samples.{channel_count, IsValue}
 use Rattle.kc_vcd.specs.Changes.{Timed, behind, end_by, taken, before, after, with_values}
 use Rattle.kc_vcd.specs.Dump.{timed_to}
 use Rattle.kc_vcd.specs.Laws.{AreKnown, level_behind, is_happening, count_among}
@@ -23,13 +23,9 @@ abbrev pub AreSamples : List Sample → Type 0
 AreSamples [] = Unit {0}
 AreSamples (s ∷ samples) = (s.channel < channel_count) × (s.value ≤ 1023) × AreSamples samples
 
-pub are_samples : (samples : List Sample) → All (λ s. s.value ≤ 1023) samples → All (λ s. s.channel < channel_count) samples → AreSamples samples
-are_samples [] small few = tt
-are_samples (s ∷ samples) small few = (
-  All-head (λ s. s.channel < channel_count) s samples few,
-  All-head (λ s. s.value ≤ 1023) s samples small,
-  are_samples samples (All-tail (λ s. s.value ≤ 1023) s samples small) (All-tail (λ s. s.channel < channel_count) s samples few),
-)
+pub are_samples : (samples : List Sample) → All IsValue samples → AreSamples samples
+are_samples [] all = tt
+are_samples (s ∷ samples) all = let first = All-head IsValue s samples all in (first.0, first.1, are_samples samples (All-tail IsValue s samples all))
 
 to_known : (t : ℕ) (samples : List Sample) → t < 2 ^ 64 → AreSamples samples → AreKnown (taken (up_to (λ s. s.at) t samples))
 to_known t [] few h = tt

@@ -9,7 +9,9 @@ use Rattle.kc_vcd.specs.declared.change.Change.{Change}
 use Rattle.kc_vcd.specs.declared.change.Change.TheVariants.{Moves, Takes, Happens, Unseen}
 use Rattle.kc_vcd.specs.declared.variable.Variable.{Variable}
 use Rattle.kc_vcd.specs.declared.variable.Variable.TheVariants.{Wire, Analog, Entry, Transfer}
-use Rattle.kc_vcd.specs.Variables.{name_of, number_of, channel_count, entry_count, transfer_count}
+use Rattle.kc_base.specs.Limits.{entry_count, transfer_count}
+use Rattle.kc_convert.specs.Samples.{channel_count}
+use Rattle.kc_vcd.specs.Variables.{name_of, number_of}
 use Rattle.kc_vcd.specs.Changes.{Timed, changes_by, end_by}
 use Rattle.kc_vcd.specs.Dump.{Shown, timed_to, dump_of}
 use Rattle.kc_vcd.specs.Reader.{level_described, value_described, count_described}

@@ -1,6 +1,6 @@
 -- What a dump says of the lives of a run (this kit's own).
-use Rattle.std.specs.Prelude.{◌≡◌, ℕ, ◌+◌, ◌*◌, ◌<◌, ◌≤◌, ◌==◌, Some, true, Bool, false, ◌&&◌, List, All, filter, length, slice_get, sum, map, take}
-use Rattle.std.specs.List.Sorted.{IsNonDecreasingBy}
+use Rattle.std.specs.Prelude.{◌≡◌, ℕ, ◌+◌, ◌*◌, ◌<◌, ◌≤◌, ◌==◌, Some, true, Bool, false, ◌&&◌, List, filter, length, slice_get, sum, map, take}
+use Rattle.kc_base.specs.Limits.{entry_count, transfer_count}
 use Rattle.kc_base.specs.Pins.{is_printed}
 use Rattle.kc_life.specs.declared.life.Signal.{Signal}
 use Rattle.kc_life.specs.declared.life.Signal.TheVariants.{Output, Input}
@@ -9,30 +9,29 @@ use Rattle.kc_life.specs.declared.life.What.TheVariants as what
 use Rattle.kc_life.specs.Lives.{Life, level_at}
 use Rattle.kc_stim.specs.Drives.{Drives}
 use Rattle.kc_convert.specs.declared.sample.Sample.{Sample}
-use Rattle.kc_convert.specs.Samples.{value_at}
+use Rattle.kc_convert.specs.Samples.{channel_count, value_at, AreOfFile}
 use Rattle.kc_events.specs.declared.line.Line.{Line}
 use Rattle.kc_events.specs.Grammar.{start_place, IsRun}
 use Rattle.kc_events.specs.Lives.{lives_of}
 use Rattle.kc_events.specs.Steps.{steps_of}
 use Rattle.kc_vcd.specs.declared.variable.Variable.TheVariants.{Analog, Entry, Transfer}
-use Rattle.kc_vcd.specs.Variables.{is_shown_input, has_value, channel_count, entry_count, transfer_count, signal_name, name_of}
+use Rattle.kc_vcd.specs.Variables.{is_shown_input, has_value, signal_name, name_of}
 use Rattle.kc_vcd.specs.Dump.{state_length, shown_of, dump_of}
 use Rattle.kc_vcd.specs.Reader.{level_described, value_described, count_described}
 
 -- ---- a run, and its dump
 
--- lines of a whole run, with what drives its inputs and an oscillator of 1 to 2 * 10^12 hertz
+-- the lines of a trace, what drives the inputs of its run, the values of the analogue inputs, and how many hertz the oscillator has
 pub record Run : Type 0 where
   pub lines : List Line
   pub drives : Drives
   pub samples : List Sample
   pub clock : ℕ
 
+-- a whole run, values as files give them, and an oscillator of 1 to 2 * 10^12 hertz
 pub record IsShownRun (run : Run) : Type 0 where
   pub whole : IsRun (start_place 0) run.lines
-  pub order : IsNonDecreasingBy (λ s. s.at) run.samples
-  pub small : All (λ s. s.value ≤ 1023) run.samples
-  pub channels : All (λ s. s.channel < channel_count) run.samples
+  pub values : AreOfFile run.samples
   pub goes : 1 ≤ run.clock
   pub slow : run.clock ≤ 2000000000000
 

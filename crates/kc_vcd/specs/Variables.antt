@@ -6,25 +6,18 @@
 -- behind another one.
 use Rattle.std.specs.Prelude.{ℕ, ◌+◌, ◌%◌, ◌<◌, ◌==◌, if◌then◌else◌, Bool, ◌&&◌, List, [], ◌∷◌, ◌++◌, flat_map, codes, decimal}
 use Rattle.std.specs.List.{range_with_len, list_any}
+use Rattle.kc_base.specs.Limits.{entry_count, transfer_count}
 use Rattle.kc_base.specs.Pins.{IsPin, pin_count, pin_name, is_printed, is_input}
 use Rattle.kc_life.specs.declared.life.Signal.{Signal}
 use Rattle.kc_life.specs.declared.life.Signal.TheVariants.{Output, Input}
 use Rattle.kc_life.specs.Signals.{pin_of}
 use Rattle.kc_stim.specs.Drives.{Drives, is_driven}
 use Rattle.kc_convert.specs.declared.sample.Sample.{Sample}
+use Rattle.kc_convert.specs.Samples.{channel_count}
 use Rattle.kc_vcd.specs.declared.variable.Variable.{Variable}
 use Rattle.kc_vcd.specs.declared.variable.Variable.TheVariants.{Wire, Analog, Entry, Transfer, Undefined, Life}
 
 -- ---- which there are
-
-abbrev pub channel_count : ℕ
-channel_count = 8
-
-abbrev pub entry_count : ℕ
-entry_count = 18
-
-abbrev pub transfer_count : ℕ
-transfer_count = 15
 
 -- a pin that is printed
 abbrev pub output_at : ℕ → List Variable

@@ -4,12 +4,12 @@ ghost use Rattle.kc_base.specs.Series.{up_to};
 ghost use Rattle.kc_life.specs.Tables.{level_in};
 ghost use Rattle.kc_events.specs.Steps.{Seen, Begins, Passes, Ends};
 ghost use Rattle.kc_events.specs.Grammar.{same_level};
-ghost use Rattle.kc_events.specs.Reporting.{AreToCome, IsWrongAt};
+ghost use Rattle.kc_events.specs.Reporting.{AreToCome, IsWrongAt, IfWrong, Counts};
 ghost use Rattle.kc_events.specs.Underway.{seen_by};
 ghost use Rattle.kc_vcd.specs.declared.variable.Variable.TheVariants.{Wire};
 ghost use Rattle.kc_vcd.specs.Changes.{beginning, difference, differences, all_at, change_by as change_of, later as later_by, behind as state_behind, taken, before, after};
 ghost use Rattle.kc_vcd.specs.Dump.{dump_of};
-ghost use Rattle.kc_vcd.specs.Dumped.{IsDumped, IfWrong, Counts};
+ghost use Rattle.kc_vcd.specs.Dumped.{IsDumped};
 ghost use Rattle.kc_vcd.specs.Writing.{shown_in, start_of, with_steps, HasReported, HasPut, HasChanged, IsSameLife};
 
 use crate::change::{Change, change_by, put_change};

@@ -2,14 +2,16 @@
 ghost use Rattle.std.specs.Prelude.{◌≡◌, ◌≤◌, ◌++◌, ◌∷◌, [], All, IfOk, OnOk};
 ghost use Rattle.kc_life.specs.Tables.{level_in};
 ghost use Rattle.kc_base.specs.Pins.{pin_count};
-ghost use Rattle.kc_vcd.specs.Variables.{output_at, outputs, input_at, inputs, channel_at, channels, entries, transfers, variables_of, has_value as value_stands, IsVariable, channel_count, entry_count, transfer_count};
+ghost use Rattle.kc_base.specs.Limits.{entry_count, transfer_count};
+ghost use Rattle.kc_convert.specs.Samples.{channel_count};
+ghost use Rattle.kc_vcd.specs.Variables.{output_at, outputs, input_at, inputs, channel_at, channels, entries, transfers, variables_of, has_value as value_stands, IsVariable};
 ghost use Rattle.kc_vcd.specs.Writing.{shown_in};
 ghost use Rattle.kc_vcd.specs.Dump.{state_length as picoseconds, shown_of, prefix as prefix_text, declarations, start_line, start_lines};
 
 use crate::variable::Variable;
-use crate::writing::{put, put_declaration, put_level, put_value};
-use kc_base::{NoMemory, PIN_COUNT, Pin};
-use kc_convert::{Analog, Sample};
+use crate::writing::{put_declaration, put_level, put_value};
+use kc_base::{ENTRY_COUNT, NoMemory, PIN_COUNT, Pin, TRANSFER_COUNT};
+use kc_convert::{Analog, CHANNEL_COUNT, Sample};
 use kc_events::start_levels;
 use kc_life::{Levels, Signal};
 use kc_stim::Stimuli;
@@ -25,12 +27,6 @@ $enddefinitions $end
 #0
 $dumpvars
 ";
-
-const CHANNELS: u8 = 8;
-
-const ENTRIES: u8 = 18;
-
-const TRANSFERS: u8 = 15;
 
 /// What a dump shows: its variables, the levels before state 0, the values of the analogue inputs, and how many picoseconds a state
 /// time has.
@@ -126,27 +122,27 @@ fn push_channel(
 fn push_channels(variables: &mut Vec<Variable>, samples: &[Sample]) -> Result<(), NoMemory>
     ensures { OnOk result (variables.new.items ≡ variables.old.items ++ channels samples.now channel_count) }
 {
-    for channel in 0..CHANNELS {
+    for channel in 0..CHANNEL_COUNT {
         push_channel(variables, samples, channel)?;
     }
     Ok(())
 }
 
-// The vectors.
+// The requests that the processor may enter.
 fn push_entries(variables: &mut Vec<Variable>) -> Result<(), NoMemory>
     ensures { OnOk result (variables.new.items ≡ variables.old.items ++ entries entry_count) }
 {
-    for number in 0..ENTRIES {
+    for number in 0..ENTRY_COUNT {
         push(variables, Variable::Entry(number))?;
     }
     Ok(())
 }
 
-// The requests that the transfer server serves.
+// Those that the transfer server may serve.
 fn push_transfers(variables: &mut Vec<Variable>) -> Result<(), NoMemory>
     ensures { OnOk result (variables.new.items ≡ variables.old.items ++ transfers transfer_count) }
 {
-    for number in 0..TRANSFERS {
+    for number in 0..TRANSFER_COUNT {
         push(variables, Variable::Transfer(number))?;
     }
     Ok(())
@@ -241,11 +237,11 @@ impl Shown {
     pub(crate) fn put_prefix(&self, text: &mut Vec<u8>) -> Result<(), NoMemory>
         ensures { OnOk result (text.new.items ≡ text.old.items ++ prefix_text (shown_in self.now)) }
     {
-        put(text, HEAD)?;
+        text.extend_from_slice(HEAD)?;
         put_declarations(text, self.variables.as_slice())?;
-        put(text, HEAD_END)?;
+        text.extend_from_slice(HEAD_END)?;
         put_starts(text, self.variables.as_slice(), &self.start)?;
-        put(text, b"$end\n")?;
+        text.extend_from_slice(b"$end\n")?;
         Ok(())
     }
 }

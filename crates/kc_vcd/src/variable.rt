@@ -4,7 +4,6 @@ ghost use Rattle.kc_base.specs.Pins.{IsPin, pin_name};
 ghost use Rattle.kc_life.specs.Signals.{pin_of};
 ghost use Rattle.kc_vcd.specs.Variables.{signal_name, name_of, signal_number as number_of_signal, number_of, code_of, IsVariable};
 
-use crate::writing::put;
 use kc_base::{NoMemory, Pin, put_number};
 use kc_life::Signal;
 
@@ -42,7 +41,7 @@ fn ending(signal: Signal) -> &'static [u8]
 fn put_numbered(text: &mut Vec<u8>, word: &[u8], number: u8) -> Result<(), NoMemory>
     ensures { OnOk result (text.new.items ≡ text.old.items ++ word.now ++ decimal number) }
 {
-    put(text, word)?;
+    text.extend_from_slice(word)?;
     put_number(text, u128::from(number))
 }
 
@@ -50,8 +49,9 @@ fn put_signal(text: &mut Vec<u8>, signal: Signal) -> Result<(), NoMemory>
     requires { IsPin (pin_of signal) }
     ensures { OnOk result (text.new.items ≡ text.old.items ++ signal_name signal) }
 {
-    put(text, pin_in(signal).name().as_bytes())?;
-    put(text, ending(signal))
+    text.extend_from_slice(pin_in(signal).name().as_bytes())?;
+    text.extend_from_slice(ending(signal))?;
+    Ok(())
 }
 
 // A pin has its number; an input that is printed too has one behind those of all pins.
@@ -82,8 +82,8 @@ impl Variable {
             Variable::Analog(channel) => put_numbered(text, b"A", channel),
             Variable::Entry(number) => put_numbered(text, b"entry", number),
             Variable::Transfer(number) => put_numbered(text, b"transfer", number),
-            Variable::Undefined => put(text, b"undefined"),
-            Variable::Life => put(text, b"life"),
+            Variable::Undefined => Ok(text.extend_from_slice(b"undefined")?),
+            Variable::Life => Ok(text.extend_from_slice(b"life")?),
         }
     }
 

@@ -9,13 +9,6 @@ use kc_base::{Level, NoMemory, StateTime, put_number};
 use kc_life::Signal;
 use kc_trace::level_digit;
 
-pub(crate) fn put(text: &mut Vec<u8>, more: &[u8]) -> Result<(), NoMemory>
-    ensures { OnOk result (text.new.items ≡ text.old.items ++ more.now) }
-{
-    text.extend_from_slice(more)?;
-    Ok(())
-}
-
 fn type_text(variable: Variable) -> &'static [u8]
     ensures { result.now ≡ type_of variable }
 {
@@ -31,11 +24,12 @@ pub(crate) fn put_declaration(text: &mut Vec<u8>, variable: Variable) -> Result<
     requires { IsVariable variable }
     ensures { OnOk result (text.new.items ≡ text.old.items ++ declaration variable) }
 {
-    put(text, b"$var ")?;
-    put(text, type_text(variable))?;
-    put(text, &[variable.code(), b' '])?;
+    text.extend_from_slice(b"$var ")?;
+    text.extend_from_slice(type_text(variable))?;
+    text.extend_from_slice(&[variable.code(), b' '])?;
     variable.put_name(text)?;
-    put(text, b" $end\n")
+    text.extend_from_slice(b" $end\n")?;
+    Ok(())
 }
 
 /// Puts the level that a signal takes.
@@ -43,7 +37,8 @@ pub(crate) fn put_level(text: &mut Vec<u8>, signal: Signal, level: Level) -> Res
     ensures { OnOk result (text.new.items ≡ text.old.items ++ level_line signal level) }
 {
     let code = Variable::Wire(signal).code();
-    put(text, &[level_digit(level), code, b'\n'])
+    text.extend_from_slice(&[level_digit(level), code, b'\n'])?;
+    Ok(())
 }
 
 // The binary digit of a value at a place, counted from the lowest.
@@ -94,16 +89,18 @@ fn trimmed(digits: &[u8]) -> &[u8]
 pub(crate) fn put_value(text: &mut Vec<u8>, channel: u8, value: u16) -> Result<(), NoMemory>
     ensures { OnOk result (text.new.items ≡ text.old.items ++ value_line channel value) }
 {
-    put(text, b"b")?;
-    put(text, trimmed(&digits_of(value)))?;
-    put(text, &[b' ', Variable::Analog(channel).code(), b'\n'])
+    text.extend_from_slice(b"b")?;
+    text.extend_from_slice(trimmed(&digits_of(value)))?;
+    text.extend_from_slice(&[b' ', Variable::Analog(channel).code(), b'\n'])?;
+    Ok(())
 }
 
 /// Puts that something happens.
 pub(crate) fn put_event(text: &mut Vec<u8>, variable: Variable) -> Result<(), NoMemory>
     ensures { OnOk result (text.new.items ≡ text.old.items ++ change_text (Happens variable)) }
 {
-    put(text, &[b'1', variable.code(), b'\n'])
+    text.extend_from_slice(&[b'1', variable.code(), b'\n'])?;
+    Ok(())
 }
 
 /// Puts the time of a state of the run, where it is another one than the state before, with states of so many picoseconds.
@@ -118,7 +115,8 @@ pub(crate) fn put_stamp(
     if at == before {
         return Ok(());
     }
-    put(text, b"#")?;
+    text.extend_from_slice(b"#")?;
     put_number(text, u128::from(length) * u128::from(at))?;
-    put(text, b"\n")
+    text.extend_from_slice(b"\n")?;
+    Ok(())
 }

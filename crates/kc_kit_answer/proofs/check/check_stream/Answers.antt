@@ -2,7 +2,7 @@ use Rattle.std.proofs.Common.{map, sym, ◌∙◌, ap, subst}
 use Rattle.kc_base.specs.Causes.{Rose}
 use Rattle.kc_kit_words.specs.Inputs.{inputs_in}
 use Rattle.kc_kit_messages.proofs.Words.{texts_in}
-use Rattle.kc_kit_verdict.specs.Verdicts.{Counts}
+use Rattle.kc_events.specs.Reporting.{Counts}
 use Rattle.kc_kit_inputs.specs.Driving.{GivenFiles}
 use Rattle.kc_kit_inputs.specs.Stimuli.{drives_of}
 use Rattle.kc_kit_answer.proofs.TraceLemmas.{counts-failed}

@@ -1,6 +1,6 @@
 use Rattle.std.proofs.Common.{sym, ◌∙◌, ap, subst}
 use Rattle.kc_base.specs.Causes.{Rose}
-use Rattle.kc_vcd.specs.Dumped.{Counts}
+use Rattle.kc_events.specs.Reporting.{Counts}
 use Rattle.kc_kit_words.specs.Inputs.{inputs_in}
 use Rattle.kc_kit_messages.proofs.Words.{texts_in}
 use Rattle.kc_kit_inputs.specs.Driving.{GivenFiles, driving_of}

@@ -10,4 +10,4 @@ value_in-requires c =
     let own : c.own_samples-own.result.now ≡ of_channel c.args.channel c.args.self.now.samples.items =
     c.own_samples-own.ensures ∙ ap (λ l. list_of l c.args.channel) c.as_slice.ensures.value ∙ c.requires.lists c.args.channel in
     subst (λ l. IsNonDecreasingBy (λ s. s.at) l) (sym own)
-    (IsNonDecreasingBy-filter (λ s. s.at) (λ s. s.channel == c.args.channel) c.args.self.now.samples.items c.requires.rise)
+    (IsNonDecreasingBy-filter (λ s. s.at) (λ s. s.channel == c.args.channel) c.args.self.now.samples.items c.requires.values.order)

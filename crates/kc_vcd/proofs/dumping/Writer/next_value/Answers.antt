@@ -10,4 +10,4 @@ returns-in_default-clause-none c = λ none.
     ap (up_to (λ s. s.at) c.args.at)
     (ap (λ (w : Written). w.samples) (sym c.self.view_is)
     ∙ ap (drop c.self.inside.taken) (ap (λ (k : Kept). k.samples) (sym c.shown.view_is) ∙ sym c.samples.ensures.samples))
-    ∙ next_held c.samples.result.now c.self.inside.taken c.args.at c.in-Some.sample c.samples.ensures.order c.in-Some.ensures.lookup less
+    ∙ next_held c.samples.result.now c.self.inside.taken c.args.at c.in-Some.sample c.samples.ensures.values.order c.in-Some.ensures.lookup less

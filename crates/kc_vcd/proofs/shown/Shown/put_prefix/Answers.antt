@@ -12,9 +12,9 @@ returns c =
     let second = c.as_slice-2.ensures.value ∙ vs in
     let start = ap (λ (k : Kept). k.start) c.self.view_is in
     five_put c.args.text.now.items head (declarations c.args.self.now.variables) head_end (start_lines (level_in c.args.self.now.start) c.args.self.now.variables) (codes "$end\n")
-    c.put.new.text.items c.put_declarations.new.text.items c.put-2.new.text.items c.put_starts.new.text.items c.put-3.new.text.items
-    c.in_ok-put.ensures
-    (c.in_ok-put_declarations.ensures ∙ (λ i. c.put.new.text.items ++ declarations (first i)))
-    c.in_ok-put-2.ensures
-    (c.in_ok-put_starts.ensures ∙ (λ i. c.put-2.new.text.items ++ start_lines (level_in (start i)) (second i)))
-    c.in_ok-put-3.ensures
+    c.extend_from_slice.new.self.items c.put_declarations.new.text.items c.extend_from_slice-2.new.self.items c.put_starts.new.text.items c.extend_from_slice-3.new.self.items
+    c.in_ok-extend_from_slice.ensures.items
+    (c.in_ok-put_declarations.ensures ∙ (λ i. c.extend_from_slice.new.self.items ++ declarations (first i)))
+    c.in_ok-extend_from_slice-2.ensures.items
+    (c.in_ok-put_starts.ensures ∙ (λ i. c.extend_from_slice-2.new.self.items ++ start_lines (level_in (start i)) (second i)))
+    c.in_ok-extend_from_slice-3.ensures.items
