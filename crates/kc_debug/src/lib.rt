@@ -6,7 +6,10 @@
 mod activities;
 mod carrying;
 mod in_lives;
+mod life;
 mod lines;
+mod living;
+mod past;
 mod session;
 mod showing;
 

@@ -6,5 +6,5 @@ pub mod Pins
 pub mod Handing
 pub mod Failing
 pub mod Going
-pub mod Raising
+pub mod Ticked
 mod Prepared

@@ -245,6 +245,7 @@ impl<X: Extra + Drop> Common<X> {
         ensures memory { self.new.memory ≡ self.old.memory }
         ensures edges { self.new.edges ≡ self.old.edges }
         ensures count { self.new.reached ≡ self.old.reached }
+        ensures refused { self.new.refused ≡ self.old.refused }
         ensures block { self.new.block ≡ self.old.block }
     {
         clear(&mut self.predecoded);

@@ -8,7 +8,7 @@ use Rattle.kc_trace.proofs.Printed.{Prints-append}
 use Rattle.kc_trace.specs.Trace.{out_of}
 use Rattle.kc_machine.specs.Seen.{machine_of}
 use Rattle.kc_machine.proofs.Going.{goes-same}
-use Rattle.kc_machine.proofs.Raising.{whole-last}
+use Rattle.kc_machine.proofs.Ticked.{whole-last}
 use Rattle.kc_machine.proofs.parts.Core.end_state.Goals as goal
 
 pub returns-clause-goes : goal.returns-clause-goes

@@ -10,8 +10,8 @@ use Rattle.kc_machine.proofs.Failing.{passes-now}
 use Rattle.kc_machine.proofs.Going.{goes-same}
 use Rattle.kc_machine.proofs.parts.Core.pass_state.Goals as goal
 
-pub returns-then-left : goal.returns-then-left
-returns-then-left g c =
+pub returns-then-activity-gt1-clause-passed : goal.returns-then-activity-gt1-clause-passed
+returns-then-activity-gt1-clause-passed g c =
     let f = g.X.Extra.further in
     let m = machine_of c.args.self.now in
     let a : UnderWay = c.args.activity in
@@ -21,29 +21,19 @@ returns-then-left g c =
     let one : m.time + 1 - m.time ≡ 1 = omega arith in
     let cut = run_to-cut f (m.time + 1) m a c.requires.may.lives c.requires.value (omega arith) (omega arith) in
     record {
-      passed = record {
-        passes = passes-now f (m.time + 1) m (machine_of c.wait_state.new.self) (omega arith) (omega arith);
-        goes = goes-same (sym (ap (λ i. run_to f i m) time ∙ cut ∙ ap (λ n. ticks_to f m (m.time + 1) n (left_at a (a.left - n))) one)) went;
-        predecoded = c.wait_state.ensures.predecoded;
-      };
-      raised = c.wait_state.ensures.raised;
-      time = time;
-      rest = λ more. (ap (λ (n : Machine _). n.under_way) went.machine, ap (λ (n : Machine _). n.ended) went.machine ∙ c.requires.may.lives);
+      passes = passes-now f (m.time + 1) m (machine_of c.wait_state.new.self) (omega arith) (omega arith);
+      goes = goes-same (sym (ap (λ i. run_to f i m) time ∙ cut ∙ ap (λ n. ticks_to f m (m.time + 1) n (left_at a (a.left - n))) one)) went;
+      predecoded = c.wait_state.ensures.predecoded;
     }
 
-pub returns-else-left : goal.returns-else-left
-returns-else-left g c =
+pub returns-else-activity-gt1-clause-passed : goal.returns-else-activity-gt1-clause-passed
+returns-else-activity-gt1-clause-passed g c =
     let f = g.X.Extra.further in
     let m = machine_of c.args.self.now in
     let left = ap (λ (b : UnderWay). b.left) c.requires.value in
     let all = run_to-whole f c.end_state.new.self.time m c.args.activity c.requires.may.lives c.requires.value c.requires.going.some (omega (arith, c.end_state.ensures.time, c.requires.going.some)) in
     record {
-      passed = record {
-        passes = passes-now f (m.time + 1) m (machine_of c.end_state.new.self) (omega (arith, c.end_state.ensures.time)) (omega (arith, c.end_state.ensures.time, c.requires.going.some));
-        goes = goes-same (sym all) c.end_state.ensures.goes;
-        predecoded = c.end_state.ensures.predecoded;
-      };
-      raised = c.end_state.ensures.raised;
-      time = c.end_state.ensures.time;
-      rest = λ more. grind (arith, more);
+      passes = passes-now f (m.time + 1) m (machine_of c.end_state.new.self) (omega (arith, c.end_state.ensures.time)) (omega (arith, c.end_state.ensures.time, c.requires.going.some));
+      goes = goes-same (sym all) c.end_state.ensures.goes;
+      predecoded = c.end_state.ensures.predecoded;
     }

@@ -5,7 +5,7 @@ use Rattle.kc_trace.specs.Out.{Prints}
 use Rattle.kc_trace.specs.Trace.{out_of}
 use Rattle.kc_machine.specs.Passing.{ticks_to}
 use Rattle.kc_machine.specs.Seen.{machine_of}
-use Rattle.kc_machine.proofs.Raising.{ticked-machine, ticked-lines, ticked-touch, ticked-raised, ticked-scene}
+use Rattle.kc_machine.proofs.Ticked.{ticked-machine, ticked-lines, ticked-touch, ticked-raised, ticked-scene}
 use Rattle.kc_machine.proofs.parts.Core.tick.Goals as goal
 
 pub returns-clause-goes : goal.returns-clause-goes

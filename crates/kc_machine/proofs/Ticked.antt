@@ -26,7 +26,10 @@ use Rattle.kc_machine.specs.Seen.{machine_of}
 use Rattle.kc_machine.specs.Raising.{raised_in}
 
 zero-or : (n : ℕ) → bit_or 0 n ≡ n
-zero-or n = let none : bit_and 0 n ≤ 0 = and_le_l 0 n in or_disjoint 0 n (omega (arith, none))
+zero-or n =
+    let none : bit_and 0 n ≤ 0 = and_le_l 0 n in
+    let sum : 0 + n ≡ n = omega arith in
+    or_disjoint 0 n (omega (arith, none)) ∙ sum
 
 -- units of which no request is pending, and units with further ones
 abbrev pub unasked : {X : Type 0} → Units X → Units X
@@ -40,14 +43,14 @@ module _ {X : Type 0} (f : Further X) where
   raised-of t u = raised_at t u ∪ (further_out_at f t u).raised.0
 
   tick-asked : (t : ℕ) (u : Units X) → asked_too u.board_registers.requests.pending (tick f t (unasked u)).units ≡ (tick f t u).units
-  unfolding tick, raised-of
+  unfolding tick raised-of
   tick-asked t u =
       let pending : ℕ = u.board_registers.requests.pending in
       let same : bit_or (bit_or 0 (raised-of t u)) pending ≡ bit_or pending (raised-of t u) = ap (λ n. bit_or n pending) (zero-or (raised-of t u)) ∙ or_comm (raised-of t u) pending in
       ap (λ n. with_requests (tick f t u).units (record (tick f t u).units.board_registers.requests { pending = n })) same
 
   tick-raised : (t : ℕ) (u : Units X) → (tick f t (unasked u)).units.board_registers.requests.pending ≡ raised_at t u ∪ (further_out_at f t u).raised.0
-  unfolding tick, raised-of
+  unfolding tick raised-of
   tick-raised t u = zero-or (raised-of t u)
 
   after-one : (t : ℕ) (u : Units X) → after (block_rule f) t 1 u ≡ (tick f t u).units
@@ -58,11 +61,11 @@ module _ {X : Type 0} (f : Further X) where
       ∙ ap (λ v. (tick f t v).units) (after-zero (block_rule f) t u)
 
   edges-asked : (t : ℕ) (u : Units X) → edges_of f t 1 (unasked u) ≡ edges_of f t 1 u
-  unfolding edges_of, after, tick
+  unfolding edges_of after tick
   edges-asked t u = refl
 
   touch-asked : (t : ℕ) (u : Units X) → touch f t 1 (unasked u) ≡ touch f t 1 u
-  unfolding touch, after, touched
+  unfolding touch after touched
   touch-asked t u = refl
 
   after-asked : (t : ℕ) (u : Units X) → asked_too u.board_registers.requests.pending (after (block_rule f) t 1 (unasked u)) ≡ after (block_rule f) t 1 u
