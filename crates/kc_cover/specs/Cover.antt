@@ -54,19 +54,26 @@ sums_of_ways (way ∷ ways) = count_line (codes "BRF:") (length (way ∷ ways)) 
 
 -- ---- lines: the greatest number of the instructions of each
 
+-- the next instruction is one of the same line
+abbrev pub goes_on : ℕ → List Instruction → Bool
+goes_on line [] = false
+goes_on line (next ∷ rest) = next.line == line
+
 -- the lines that give instructions, each with how often it has run, where so often is known of the first
 unfoldable pub lines_of : Statistics → ℕ → List Instruction → List (ℕ × ℕ)
 lines_of t times [] = []
-lines_of t times (i ∷ []) = (i.line, max times (slice_index t.hits i.addr)) ∷ []
-lines_of t times (i ∷ next ∷ rest) =
+lines_of t times (i ∷ rest) =
     let so_far = max times (slice_index t.hits i.addr) in
-    if next.line == i.line then lines_of t so_far (next ∷ rest) else (i.line, so_far) ∷ lines_of t 0 (next ∷ rest)
+    if goes_on i.line rest then lines_of t so_far rest else (i.line, so_far) ∷ lines_of t 0 rest
+
+abbrev pub has_run : ℕ × ℕ → Bool
+has_run l = is_some_times l.1
 
 abbrev pub line_line : ℕ × ℕ → List ℕ
 line_line l = codes "DA:" ++ decimal l.0 ++ codes "," ++ decimal l.1 ++ codes "\n"
 
 abbrev pub lines_text : List (ℕ × ℕ) → List ℕ
-lines_text ls = flat_map line_line ls ++ count_line (codes "LF:") (length ls) ++ count_line (codes "LH:") (count_by (λ l. is_some_times l.1) ls)
+lines_text ls = flat_map line_line ls ++ count_line (codes "LF:") (length ls) ++ count_line (codes "LH:") (count_by has_run ls)
 
 -- ---- sources
 

@@ -1,5 +1,5 @@
 // The text of a coverage, after the manual page of geninfo ("FILES", the tracefile).
-ghost use Rattle.std.specs.Prelude.{◌≡◌, ◌++◌, OnOk};
+ghost use Rattle.std.specs.Prelude.{◌≡◌, ◌++◌, ◌+◌, ◌<◌, ◌≤◌, ◌^◌, count_by, flat_map, length, IfOk, OnOk};
 ghost use Rattle.kc_cover.specs.Cover as spec;
 
 use crate::source::{Instruction, Source};
@@ -14,12 +14,20 @@ struct Tally {
 }
 
 impl Tally {
-    fn none() -> Tally {
+    fn none() -> Tally
+        ensures found { result.found ≡ 0 }
+        ensures hit { result.hit ≡ 0 }
+    {
         Tally { found: 0, hit: 0 }
     }
 
     // One more, which has run so often.
-    fn add(&mut self, times: u64) {
+    fn add(&mut self, times: u64)
+        requires room { self.old.found < 2 ^ 64 - 1 }
+        requires part { self.old.hit ≤ self.old.found }
+        ensures found { self.new.found ≡ self.old.found + 1 }
+        ensures hit { self.new.hit ≡ self.old.hit + spec.one_if (spec.is_some_times times) }
+    {
         self.found += 1;
         if times > 0 {
             self.hit += 1;
@@ -124,26 +132,38 @@ fn put_jump_lines(
     Ok(())
 }
 
+// Counts the two ways of an instruction where it is a jump.
+fn count_ways(tally: &mut Tally, instruction: &Instruction, statistics: &Statistics)
+    requires room { tally.old.found < 2 ^ 64 - 2 }
+    requires part { tally.old.hit ≤ tally.old.found }
+    ensures found { tally.new.found ≡ tally.old.found + length (spec.ways_of statistics.now instruction.now) }
+    ensures hit { tally.new.hit ≡ tally.old.hit + count_by spec.is_some_times (spec.ways_of statistics.now instruction.now) }
+{
+    if instruction.is_branch {
+        let (taken, passed) = statistics.ways(instruction.addr);
+        tally.add(taken);
+        tally.add(passed);
+    }
+}
+
 // How many ways of jumps there are, and how many of them were gone.
-fn ways_of(instructions: &[Instruction], statistics: &Statistics) -> Tally {
+fn ways_of(instructions: &[Instruction], statistics: &Statistics) -> Tally
+    ensures found { result.found ≡ length (spec.all_ways statistics.now instructions.now) }
+    ensures hit { result.hit ≡ count_by spec.is_some_times (spec.all_ways statistics.now instructions.now) }
+{
     let mut tally = Tally::none();
-    for instruction in instructions {
-        if instruction.is_branch {
-            let (taken, passed) = statistics.ways(instruction.addr);
-            tally.add(taken);
-            tally.add(passed);
-        }
+    let mut left = instructions;
+    while let [first, rest @ ..] = left {
+        count_ways(&mut tally, first, statistics);
+        left = rest;
     }
     tally
 }
 
-// Puts the lines of all jumps, and how many ways there are; nothing where there is no jump.
-fn put_jumps(
-    text: &mut Vec<u8>,
-    instructions: &[Instruction],
-    statistics: &Statistics,
-) -> Result<(), NoMemory> {
-    put_jump_lines(text, instructions, statistics)?;
+// Puts how many ways of jumps there are; nothing where there is no jump.
+fn put_ways(text: &mut Vec<u8>, instructions: &[Instruction], statistics: &Statistics) -> Result<(), NoMemory>
+    ensures { OnOk result (text.new.items ≡ text.old.items ++ spec.sums_of_ways (spec.all_ways statistics.now instructions.now)) }
+{
     let tally = ways_of(instructions, statistics);
     if tally.found == 0 {
         return Ok(());
@@ -155,38 +175,58 @@ fn put_jumps(
 // ---- lines
 
 // Puts how often a line has run.
-fn put_line(text: &mut Vec<u8>, line: u32, times: u64, tally: &mut Tally) -> Result<(), NoMemory> {
-    tally.add(times);
+fn put_line(text: &mut Vec<u8>, line: u32, times: u64) -> Result<(), NoMemory>
+    ensures { OnOk result (text.new.items ≡ text.old.items ++ spec.line_line (line, times)) }
+{
     text.extend_from_slice(b"DA:")?;
     put_number(text, u128::from(line))?;
-    put_count(text, b",", times)
+    text.extend_from_slice(b",")?;
+    put_number(text, u128::from(times))?;
+    text.extend_from_slice(b"\n")?;
+    Ok(())
 }
 
 // Whether the next instruction is one of the same line.
-fn goes_on(line: u32, instructions: &[Instruction]) -> bool {
+fn goes_on(line: u32, instructions: &[Instruction]) -> bool
+    ensures { result ≡ spec.goes_on line instructions.now }
+{
     match instructions.first() {
         Some(next) => next.line == line,
         None => false,
     }
 }
 
-// Puts the lines of all lines that give an instruction, with the greatest number of those of its instructions.
-fn put_lines(
+// Puts the lines of all lines that give an instruction, with the greatest number of those of its instructions, and counts them.
+#[tactic(auto, unfolding(crate::specs::Cover::lines_of))]
+fn put_each_line(
     text: &mut Vec<u8>,
     instructions: &[Instruction],
     statistics: &Statistics,
-) -> Result<(), NoMemory> {
+) -> Result<Tally, NoMemory>
+    ensures text { OnOk result (text.new.items ≡ text.old.items ++ flat_map spec.line_line (spec.lines_of statistics.now 0 instructions.now)) }
+    ensures found { IfOk result (λ tally. tally.found ≡ length (spec.lines_of statistics.now 0 instructions.now)) }
+    ensures hit { IfOk result (λ tally. tally.hit ≡ count_by spec.has_run (spec.lines_of statistics.now 0 instructions.now)) }
+{
     let mut tally = Tally::none();
     let mut left = instructions;
     let mut times = 0u64;
     while let [first, rest @ ..] = left {
         times = times.max(statistics.hits(first.addr));
         if !goes_on(first.line, rest) {
-            put_line(text, first.line, times, &mut tally)?;
+            put_line(text, first.line, times)?;
+            tally.add(times);
             times = 0;
         }
         left = rest;
     }
+    Ok(tally)
+}
+
+// Puts the lines of all lines, and how many there are.
+fn put_lines(text: &mut Vec<u8>, instructions: &[Instruction], statistics: &Statistics) -> Result<(), NoMemory>
+    ensures { OnOk result (text.new.items ≡ text.old.items ++ spec.lines_text (spec.lines_of statistics.now 0 instructions.now)) }
+{
+    let tally = put_each_line(text, instructions, statistics)?;
     put_count(text, b"LF:", tally.found)?;
     put_count(text, b"LH:", tally.hit)
 }
@@ -218,7 +258,8 @@ fn put_source(
     text.extend_from_slice(b"SF:")?;
     text.extend_from_slice(source.name.as_bytes())?;
     text.push(b'\n')?;
-    put_jumps(text, &source.instructions, statistics)?;
+    put_jump_lines(text, &source.instructions, statistics)?;
+    put_ways(text, &source.instructions, statistics)?;
     put_lines(text, &source.instructions, statistics)?;
     text.extend_from_slice(b"end_of_record\n")?;
     Ok(())

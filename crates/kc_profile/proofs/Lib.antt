@@ -7,3 +7,10 @@ pub mod SpreadsOf
 pub mod Times
 pub mod Seen
 pub mod States
+pub mod Alone
+pub mod Nothing
+pub mod Histories
+pub mod StatisticsOne
+pub mod Branches
+pub mod Added
+pub mod Few

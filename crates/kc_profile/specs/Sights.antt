@@ -1,9 +1,10 @@
 -- What a run shows in each of its state times (80C196KC User's Manual, "Interrupts", "Peripheral Transaction Server", "Instruction Set";
 -- that it is reported is this kit's own).
-use Rattle.std.specs.Prelude.{◌≡◌, ℕ, zero, suc, ◌+◌, ◌-◌, ◌<◌, ◌==◌, nat_le, Bool, true, false, not, ◌&&◌, ◌||◌, if◌then◌else◌, List, [], ◌∷◌, Option, Some, None}
+use Rattle.std.specs.Prelude.{◌≡◌, ℕ, zero, suc, ◌+◌, ◌-◌, ◌%◌, ◌<◌, ◌==◌, nat_le, Bool, true, false, not, ◌&&◌, ◌||◌, if◌then◌else◌, List, [], ◌∷◌, Option, Some, None}
 use Rattle.kc_base.specs.Bits.{bit}
 use Rattle.kc_base.specs.declared.types.IntSet.{IntSet}
 use Rattle.kc_isa.specs.declared.insn.Insn.{Insn}
+use Rattle.kc_isa.specs.Formed.{is_formed}
 use Rattle.kc_exec_spec.specs.Jumping.{next_pc}
 use Rattle.kc_intc.specs.declared.requests.Requests.{Requests}
 use Rattle.kc_extra.specs.Further.{Further}
@@ -108,9 +109,17 @@ is_branch insn =
     not insn.signed
     && (lies_in 0x30 0x3F insn.opcode || lies_in 0xD0 0xDF insn.opcode || insn.opcode == 0xE0 || insn.opcode == 0xE1)
 
+-- the bytes of such a jump: a jump on a flag has two, one with a register three
+abbrev pub branch_length : ℕ → ℕ
+branch_length opcode = if lies_in 0xD0 0xDF opcode then 2 else 3
+
 -- to the instruction behind it, or anywhere else
 abbrev pub way_to : Insn → ℕ → ℕ → Way
-way_to insn pc next = if next == next_pc insn pc then Passed else Taken
+way_to insn pc next = if next == (pc + branch_length insn.opcode) % 0x10000 then Passed else Taken
+
+-- the address behind a well-formed jump is that of the next instruction
+abbrev pub BranchesPassToTheNext : Type 0
+BranchesPassToTheNext = (insn : Insn) (pc : ℕ) → is_formed insn ≡ true → is_branch insn ≡ true → (pc + branch_length insn.opcode) % 0x10000 ≡ next_pc insn pc
 
 abbrev pub way_of : Option Activity → ℕ → ℕ → Option Way
 way_of (Some (Executes insn)) pc next = if is_branch insn then Some (way_to insn pc next) else None

@@ -131,6 +131,10 @@ statistics_of life sights = record {
   passed = values_for (λ addr. count_by (is_way Passed addr) sights) 65536;
 }
 
+-- the statistics of some states of a life are this value
+abbrev pub StatisticsAreOne : Type 0
+StatisticsAreOne = (life : ℕ) (sights : List Sight) (t : Statistics) → t.life ≡ life → AreStatisticsOf life sights t → t ≡ statistics_of life sights
+
 -- ---- several lives
 
 abbrev pub deeper_of : Option Depth → Option Depth → Option Depth
@@ -138,7 +142,7 @@ deeper_of first None = first
 deeper_of first (Some second) = Some (deeper first second)
 
 unfoldable pub sums : List ℕ → List ℕ → List ℕ
-sums (n ∷ ns) (m ∷ ms) = n + m ∷ sums ns ms
+sums (n ∷ ns) (m ∷ ms) = (n + m) ∷ sums ns ms
 sums _ _ = []
 
 unfoldable pub all_added : List Waits → List Waits → List Waits

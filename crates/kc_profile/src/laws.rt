@@ -1,4 +1,6 @@
+ghost use Rattle.kc_profile.specs.Sights.{BranchesPassToTheNext};
 ghost use Rattle.kc_profile.specs.Spreads.{SpreadsAreOfAll};
+ghost use Rattle.kc_profile.specs.Statistics.{StatisticsAreOne};
 ghost use Rattle.kc_profile.specs.Tally.{TalliesAreOne};
 ghost use Rattle.kc_profile.specs.Waits.{TimesAreRows, WaitsAreSeen, WaitsAreSinceItCame};
 
@@ -25,4 +27,14 @@ pub fn times_are_rows()
 /// What a profile reports of a request after a state is what it reported before it, and what the state shows.
 pub fn waits_are_seen()
     ensures { WaitsAreSeen }
+{}
+
+/// The address behind a well-formed conditional jump is that of the next instruction.
+pub fn branches_pass_to_the_next()
+    ensures { BranchesPassToTheNext }
+{}
+
+/// The statistics of some states of a life are those, and no others.
+pub fn statistics_are_one()
+    ensures { StatisticsAreOne }
 {}

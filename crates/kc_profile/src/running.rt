@@ -5,17 +5,17 @@ ghost use Rattle.kc_trace.specs.Counting.{counted_all};
 ghost use Rattle.kc_trace.specs.Out.{Puts, Prints};
 ghost use Rattle.kc_trace.specs.Text.{text_of};
 ghost use Rattle.kc_trace.specs.Trace.{out_of};
-ghost use Rattle.kc_machine_spec.specs.Machine.{Machine, current};
-ghost use Rattle.kc_machine_spec.specs.Run.{run_to, end_of};
+ghost use Rattle.kc_machine_spec.specs.Machine.{current};
+ghost use Rattle.kc_machine_spec.specs.Run.{run_for, run_to, end_of};
 ghost use Rattle.kc_machine_spec.specs.Passing.{activity_end};
 ghost use Rattle.kc_machine.specs.Failing.{FailsIn};
 ghost use Rattle.kc_machine.specs.Stepping.{IdlesFor};
 ghost use Rattle.kc_profile.specs.declared.spot.Spot as spots;
 ghost use Rattle.kc_profile.specs.Spots.{coming_spot, spots_for};
 ghost use Rattle.kc_profile.specs.Tally.{IsTallyOf, total};
-ghost use Rattle.kc_profile.specs.Passing.{Went, LastsFor};
-ghost use Rattle.kc_profile.specs.Sights.{seen_of, history, Begins};
-ghost use Rattle.kc_profile.specs.Statistics.{AreAllFew, AreStatisticsOf};
+ghost use Rattle.kc_profile.specs.Passing.{Went, LastsFor, PassesAlone, CountsOn};
+ghost use Rattle.kc_profile.specs.Sights.{seen_of};
+ghost use Rattle.kc_profile.specs.Statistics.{AreAllFew};
 ghost use Rattle.kc_span.specs.Span.{QuietFor};
 ghost use Rattle.kc_block_spec.specs.Touch.{block_rule};
 ghost use Rattle.kc_machine_spec.specs.Board.{word_at};
@@ -33,13 +33,13 @@ use kc_machine_spec::UnderWay;
 use kc_trace::TraceOut;
 use std::sync::ledger::Ledger;
 
-// Goes on to a state before which the machine does not end.
+// Goes on to a state before which the machine does not end. Answers that no request is raised.
 fn go_to<X: Extra + Drop, S: Sink, L: Ledger>(
     machine: &mut Machine<X>,
     stop: StateTime,
     out: &mut TraceOut<S>,
     steps: &mut Steps<L>,
-) -> Result<(), WriteFault>
+) -> Result<IntSet, WriteFault>
     requires lives { machine.old.machine.ended ≡ None }
     requires ahead { machine.old.machine.time < stop }
     requires lasts { LastsFor X.further (stop - machine.old.machine.time) machine.old.machine }
@@ -53,96 +53,60 @@ fn go_to<X: Extra + Drop, S: Sink, L: Ledger>(
     ensures spent { steps.new ≤ steps.old + 4 * (run_to X.further machine.new.machine.time machine.old.machine).touch }
     ensures moves { machine.new.moves ≤ machine.old.moves + 4 * (run_to X.further machine.new.machine.time machine.old.machine).touch }
     ensures written { OnOk result (out.new.failed ≡ false) }
+    ensures none { IfOk result (λ set. set.0 ≡ 0) }
 {
     match machine.run(stop, out, steps) {
-        Ok(_) => Ok(()),
+        Ok(_) => Ok(IntSet(0)),
         Err(fault) => Err(fault),
     }
 }
 
-// Goes on over idle states.
+// Goes on over idle states in which the units do nothing, and so raise no request.
 fn rest<X: Extra + Drop, S: Sink, L: Ledger>(
     machine: &mut Machine<X>,
     stop: StateTime,
     until: StateTime,
     out: &mut TraceOut<S>,
     steps: &mut Steps<L>,
-) -> Result<(), WriteFault>
+) -> Result<IntSet, WriteFault>
     requires ahead { machine.old.machine.time < stop }
     requires idles { IdlesFor X.further (stop - machine.old.machine.time) machine.old.machine }
+    requires quiet { QuietFor (block_rule X.further) machine.old.machine.time (stop - machine.old.machine.time) machine.old.machine.board.units }
     requires within { stop ≤ until }
     requires room { until ≤ 2 * max_states }
     requires unbroken { out.old.failed ≡ false }
     ensures went { Went X.further until result machine.old (out_of S.written S.faults out.old) steps.old machine.new (out_of S.written S.faults out.new) steps.new }
+    ensures alone { PassesAlone X.further (machine.new.machine.time - machine.old.machine.time) machine.old.machine }
+    ensures raised { IfOk result (λ set. set.0 ≡ raised_in X.further (run_for X.further (machine.new.machine.time - machine.old.machine.time - 1) machine.old.machine).machine) }
 {
     go_to(machine, stop, out, steps)
 }
 
-// Goes on to the end of the present activity, or of the next one.
+// Goes on to the end of the present activity, or of the next one; the units do nothing up to there, and so raise no request.
 fn finish<X: Extra + Drop, S: Sink, L: Ledger>(
     machine: &mut Machine<X>,
     until: StateTime,
     out: &mut TraceOut<S>,
     steps: &mut Steps<L>,
-) -> Result<(), WriteFault>
+) -> Result<IntSet, WriteFault>
     requires lives { machine.old.machine.ended ≡ None }
+    requires quiet { QuietFor (block_rule X.further) machine.old.machine.time (activity_end machine.old.machine - machine.old.machine.time) machine.old.machine.board.units }
     requires within { activity_end machine.old.machine ≤ until }
     requires room { until ≤ 2 * max_states }
     requires unbroken { out.old.failed ≡ false }
     ensures went { Went X.further until result machine.old (out_of S.written S.faults out.old) steps.old machine.new (out_of S.written S.faults out.new) steps.new }
+    ensures alone { PassesAlone X.further (machine.new.machine.time - machine.old.machine.time) machine.old.machine }
+    ensures raised { IfOk result (λ set. set.0 ≡ raised_in X.further (run_for X.further (machine.new.machine.time - machine.old.machine.time - 1) machine.old.machine).machine) }
 {
     match machine.step_activity(out, steps) {
-        Ok(_) => Ok(()),
+        Ok(_) => Ok(IntSet(0)),
         Err(fault) => Err(fault),
     }
 }
 
-// Goes on by some states of the present activity, or of the next one, its last not among them.
-fn begin<X: Extra + Drop, S: Sink, L: Ledger>(
-    machine: &mut Machine<X>,
-    until: StateTime,
-    out: &mut TraceOut<S>,
-    steps: &mut Steps<L>,
-) -> Result<(), WriteFault>
-    requires lives { machine.old.machine.ended ≡ None }
-    requires ahead { machine.old.machine.time < until }
-    requires within { until < activity_end machine.old.machine }
-    requires room { until ≤ 2 * max_states }
-    requires unbroken { out.old.failed ≡ false }
-    ensures went { Went X.further until result machine.old (out_of S.written S.faults out.old) steps.old machine.new (out_of S.written S.faults out.new) steps.new }
-{
-    go_to(machine, until, out, steps)
-}
-
-// Goes on by states of one spot: idle states, or those of an activity that has so many left.
-fn pass<X: Extra + Drop, S: Sink, L: Ledger>(
-    machine: &mut Machine<X>,
-    left: u8,
-    until: StateTime,
-    out: &mut TraceOut<S>,
-    steps: &mut Steps<L>,
-) -> Result<(), WriteFault>
-    requires lives { machine.old.machine.ended ≡ None }
-    requires left { left ≡ (current machine.old.machine).left }
-    requires ahead { machine.old.machine.time < until }
-    requires room { until ≤ 2 * max_states }
-    requires unbroken { out.old.failed ≡ false }
-    ensures went { Went X.further until result machine.old (out_of S.written S.faults out.old) steps.old machine.new (out_of S.written S.faults out.new) steps.new }
-{
-    let now = machine.now();
-    let rested = machine.idles_to(until);
-    if now < rested {
-        rest(machine, rested, until, out, steps)
-    } else if now + u64::from(left) <= until {
-        finish(machine, until, out, steps)
-    } else {
-        begin(machine, until, out, steps)
-    }
-}
-
-// Goes on by states of one spot in which the units do nothing but perhaps in the last, or by one state. Answers which requests are
-// raised in the last of them; none is in those before.
-fn pass_reported<X: Extra + Drop, S: Sink, L: Ledger>(
+// Goes on by one state, in which the units may do something; after a fault of the sink to the end of the activity, of which so many
+// states are left, or to `until` if that comes first. Answers which requests are raised in the state.
+fn pass_one<X: Extra + Drop, S: Sink, L: Ledger>(
     machine: &mut Machine<X>,
     left: u8,
     until: StateTime,
@@ -155,17 +119,40 @@ fn pass_reported<X: Extra + Drop, S: Sink, L: Ledger>(
     requires room { until ≤ 2 * max_states }
     requires unbroken { out.old.failed ≡ false }
     ensures went { Went X.further until result machine.old (out_of S.written S.faults out.old) steps.old machine.new (out_of S.written S.faults out.new) steps.new }
-    ensures quiet { OnOk result (QuietFor (block_rule X.further) machine.old.machine.time (machine.new.machine.time - 1 - machine.old.machine.time) machine.old.machine.board.units) }
-    ensures raised { IfOk result (λ set. set.0 ≡ raised_in X.further (run_to X.further (machine.new.machine.time - 1) machine.old.machine).machine) }
+    ensures alone { OnOk result (PassesAlone X.further (machine.new.machine.time - machine.old.machine.time) machine.old.machine) }
+    ensures raised { IfOk result (λ set. set.0 ≡ raised_in X.further (run_for X.further (machine.new.machine.time - machine.old.machine.time - 1) machine.old.machine).machine) }
 {
-    let quiet = machine.due().min(until);
-    if machine.now() < quiet {
-        match pass(machine, left, quiet, out, steps) {
-            Ok(()) => Ok(IntSet(0)),
-            Err(fault) => Err(fault),
-        }
+    let end = machine.now() + u64::from(left.max(1));
+    machine.step_state(until.min(end), out, steps)
+}
+
+// Goes on by states of one spot: those of idling or of an activity to its end, where the units do nothing up to there, and else by one
+// state. Answers which requests are raised in the last of them; in those before none is.
+fn pass<X: Extra + Drop, S: Sink, L: Ledger>(
+    machine: &mut Machine<X>,
+    left: u8,
+    until: StateTime,
+    out: &mut TraceOut<S>,
+    steps: &mut Steps<L>,
+) -> Result<IntSet, WriteFault>
+    requires lives { machine.old.machine.ended ≡ None }
+    requires left { left ≡ (current machine.old.machine).left }
+    requires ahead { machine.old.machine.time < until }
+    requires room { until ≤ 2 * max_states }
+    requires unbroken { out.old.failed ≡ false }
+    ensures went { Went X.further until result machine.old (out_of S.written S.faults out.old) steps.old machine.new (out_of S.written S.faults out.new) steps.new }
+    ensures alone { OnOk result (PassesAlone X.further (machine.new.machine.time - machine.old.machine.time) machine.old.machine) }
+    ensures raised { IfOk result (λ set. set.0 ≡ raised_in X.further (run_for X.further (machine.new.machine.time - machine.old.machine.time - 1) machine.old.machine).machine) }
+{
+    let now = machine.now();
+    let stop = machine.due().min(until);
+    let rested = machine.idles_to(stop);
+    if now < rested {
+        rest(machine, rested, until, out, steps)
+    } else if now + u64::from(left) <= stop {
+        finish(machine, until, out, steps)
     } else {
-        machine.step_state(until, out, steps)
+        pass_one(machine, left, until, out, steps)
     }
 }
 
@@ -238,7 +225,8 @@ fn count<X: Extra + Drop, S: Sink, L: Ledger>(
     requires unbroken { out.old.failed ≡ false }
     requires few { AreAllFew (2 ^ 64 - 2) statistics.old }
     ensures went { Went X.further until result machine.old (out_of S.written S.faults out.old) steps.old machine.new (out_of S.written S.faults out.new) steps.new }
-    ensures statistics { (first : Machine X) → Begins first → machine.old.machine ≡ (run_to X.further machine.old.machine.time first).machine → AreStatisticsOf statistics.old.life (history X.further machine.old.machine.time first) statistics.old → OnOk result (AreStatisticsOf statistics.old.life (history X.further machine.new.machine.time first) statistics.new) }
+    ensures statistics { OnOk result (CountsOn X.further statistics.old.life machine.old.machine statistics.old machine.new.machine statistics.new) }
+    ensures life { statistics.new.life ≡ statistics.old.life }
     ensures few { (n : ℕ) → AreAllFew n statistics.old → AreAllFew (n + 1) statistics.new }
     ensures profile { (before : List spots.Spot) → IsTallyOf before profile.old → IsTallyOf (before ++ replicate (machine.new.machine.time - machine.old.machine.time) (coming_spot machine.old.machine)) profile.new }
     ensures total { total profile.new ≡ total profile.old + (machine.new.machine.time - machine.old.machine.time) }
@@ -246,7 +234,7 @@ fn count<X: Extra + Drop, S: Sink, L: Ledger>(
     let activity = machine.current(steps);
     let spot = spot_of(activity.doing, machine.pc());
     let start = start_of(machine);
-    let passed = pass_reported(machine, activity.left, until, out, steps);
+    let passed = pass(machine, activity.left, until, out, steps);
     profile.add(spot, machine.now() - start.at);
     match passed {
         Ok(raised) => {
@@ -289,7 +277,8 @@ pub fn run_profiled<X: Extra + Drop, S: Sink, L: Ledger>(
     ensures all { OnOk result (spots_for X.further (until - machine.old.machine.time) machine.old.machine ≡ spots_for X.further (machine.new.machine.time - machine.old.machine.time) machine.old.machine) }
     ensures passed { length (spots_for X.further (machine.new.machine.time - machine.old.machine.time) machine.old.machine) ≡ machine.new.machine.time - machine.old.machine.time }
     ensures total { total profile.new ≡ total profile.old + (machine.new.machine.time - machine.old.machine.time) }
-    ensures statistics { (first : Machine X) → Begins first → machine.old.machine ≡ (run_to X.further machine.old.machine.time first).machine → AreStatisticsOf statistics.old.life (history X.further machine.old.machine.time first) statistics.old → OnOk result (AreStatisticsOf statistics.old.life (history X.further machine.new.machine.time first) statistics.new) }
+    ensures statistics { OnOk result (CountsOn X.further statistics.old.life machine.old.machine statistics.old machine.new.machine statistics.new) }
+    ensures life { statistics.new.life ≡ statistics.old.life }
     ensures few { (n : ℕ) → AreAllFew n statistics.old → AreAllFew (n + (machine.new.machine.time - machine.old.machine.time)) statistics.new }
 {
     while machine.now() < until {

@@ -4,7 +4,7 @@ ghost use Rattle.kc_profile.specs.Sights as spec;
 
 use kc_base::{IntSet, StateTime};
 use kc_intc::Requests;
-use kc_isa::{Insn, length};
+use kc_isa::Insn;
 use kc_machine::End;
 use kc_machine_spec::Activity;
 
@@ -56,6 +56,24 @@ pub enum Way {
     Passed,
 }
 
+// How many bytes a conditional jump has.
+fn branch_length(opcode: u8) -> u16
+    ensures { result ≡ spec.branch_length opcode }
+{
+    if matches!(opcode, 0xD0..=0xDF) { 2 } else { 3 }
+}
+
+// Which way a conditional jump goes that leads from one address to another.
+fn way_to(insn: &Insn, pc: u16, next: u16) -> Way
+    ensures { result ≡ spec.way_to insn.now pc next }
+{
+    if next == pc.wrapping_add(branch_length(insn.opcode)) {
+        Way::Passed
+    } else {
+        Way::Taken
+    }
+}
+
 impl Sight {
     /// The activity that has ended in the state, where no undefined use ends the run there.
     pub(crate) fn done(&self) -> Option<Activity>
@@ -101,11 +119,7 @@ impl Sight {
     {
         match self.done() {
             Some(Activity::Executes(insn)) if is_branch(&insn) => {
-                if self.next_pc == self.pc.wrapping_add(u16::from(length(&insn))) {
-                    Some(Way::Passed)
-                } else {
-                    Some(Way::Taken)
-                }
+                Some(way_to(&insn, self.pc, self.next_pc))
             }
             _ => None,
         }

@@ -3,7 +3,7 @@ ghost use Rattle.std.specs.Prelude.{◌≡◌, ◌+◌, ◌-◌, ◌<◌, ◌≤
 ghost use Rattle.kc_profile.specs.declared.sight.Sight as sights;
 ghost use Rattle.kc_profile.specs.Statistics.{AreAllFew, HaveSeen, AreStatisticsOf, waits_at};
 ghost use Rattle.kc_profile.specs.Statistics as spec;
-ghost use Rattle.kc_profile.specs.Waits.{see, AreConsecutive};
+ghost use Rattle.kc_profile.specs.Waits.{see, AreConsecutive, AreFewWaits};
 
 use crate::sight::{Sight, Way};
 use crate::spread::Moment;
@@ -57,12 +57,24 @@ fn count(numbers: &mut [u64], addr: u16)
 // Adds numbers to others, each to its own.
 fn add_all(numbers: &mut [u64], more: &[u64])
     requires same { length numbers.old ≡ length more.now }
-    requires few { All (λ n. n < 2 ^ 63) numbers.old }
-    requires more { All (λ n. n < 2 ^ 63) more.now }
+    requires few { All (λ n. n ≤ 2 ^ 63 - 1) numbers.old }
+    requires more { All (λ n. n ≤ 2 ^ 63 - 1) more.now }
     ensures { numbers.new ≡ spec.sums numbers.old more.now }
 {
     for i in 0..numbers.len() {
         numbers[i] += more[i];
+    }
+}
+
+// Adds what a later life reports of each request.
+fn add_waits(waits: &mut [Waits], later: &[Waits])
+    requires same { length waits.old ≡ length later.now }
+    requires few { All (AreFewWaits (2 ^ 63 - 1)) waits.old }
+    requires later { All (AreFewWaits (2 ^ 63 - 1)) later.now }
+    ensures { waits.new ≡ spec.all_added waits.old later.now }
+{
+    for n in 0..waits.len() {
+        waits[n].add(&later[n]);
     }
 }
 
@@ -80,6 +92,7 @@ impl Statistics {
     /// Of a life with this number of which no state has passed.
     pub fn new(alloc: Global, life: u16) -> Result<Statistics, NoMemory>
         ensures statistics { IfOk result (λ statistics. AreStatisticsOf life [] statistics) }
+        ensures life { IfOk result (λ statistics. statistics.life ≡ life) }
         ensures few { IfOk result (λ statistics. AreAllFew 0 statistics) }
     {
         Ok(Statistics {
@@ -151,11 +164,10 @@ impl Statistics {
     pub fn add(&mut self, later: &Statistics)
         requires few { AreAllFew (2 ^ 63 - 1) self.old }
         requires later { AreAllFew (2 ^ 63 - 1) later.now }
-        ensures { self.new ≡ spec.with_life self.old later.now }
+        ensures statistics { self.new ≡ spec.with_life self.old later.now }
+        ensures few { (n m : ℕ) → AreAllFew n self.old → AreAllFew m later.now → AreAllFew (n + m) self.new }
     {
-        for n in 0..16usize {
-            self.waits[n].add(&later.waits[n]);
-        }
+        add_waits(&mut self.waits, &later.waits);
         if let Some(depth) = later.deepest {
             self.deepest = Some(deeper(self.deepest, depth));
         }
