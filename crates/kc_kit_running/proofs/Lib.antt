@@ -1,4 +1,5 @@
 pub mod CountLemmas
+pub mod LifeLemmas
 pub mod LivesLemmas
 pub mod ProfileLemmas
 pub mod RunLemmas

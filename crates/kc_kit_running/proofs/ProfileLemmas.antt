@@ -1,12 +1,11 @@
 -- The response of a run whose states are counted.
 use Rattle.std.proofs.Common.{◌≡◌, ◌≢◌, ◌⊎◌, inl, inr, ℕ, ◌+◌, ◌-◌, ◌^◌, ◌<◌, ◌≤◌, false, true, List, [], ◌∷◌, ◌++◌, length, Option, Some, None, Result, Ok, Err, refl, sym, ◌∙◌, ap, subst, arith}
-use Rattle.std.specs.Prelude.{max, OnOk}
+use Rattle.std.specs.Prelude.{max}
 use Rattle.std.specs.List.{Any}
 use Rattle.kc_base.specs.Causes.{Rose, Grew, GrewByPart}
 use Rattle.kc_base.specs.Held.{Holding}
 use Rattle.kc_trace.specs.Out.{Out, Puts}
 use Rattle.kc_trace.specs.Text.{text_of}
-use Rattle.kc_trace.specs.declared.trace.WriteFault.{WriteFault}
 use Rattle.kc_trace.proofs.Outs.{Puts-longer, Puts-nothing}
 use Rattle.kc_trace.proofs.Printed.{text_of-append}
 use Rattle.kc_debug_script.specs.declared.line_map.MapEntry.{MapEntry}
@@ -20,6 +19,7 @@ use Rattle.kc_cycles.specs.declared.lives.LivesFault.TheVariants as fault
 use Rattle.kc_profile.specs.declared.sight.Sight.{Sight}
 use Rattle.kc_profile.specs.declared.spot.Spot.{Spot}
 use Rattle.kc_profile.specs.declared.statistics_text.Scope.TheVariants as scope
+use Rattle.kc_profile.specs.Passing.{CountsOn}
 use Rattle.kc_profile.specs.Sights.{history, Begins}
 use Rattle.kc_profile.specs.Spots.{spots_for}
 use Rattle.kc_profile.specs.Statistics.{Statistics, AreStatisticsOf, statistics_of}
@@ -43,6 +43,7 @@ use Rattle.kc_kit_running.specs.Passing.{HasFailed, HasFinished, HasPassed}
 use Rattle.kc_kit_running.specs.Profiled.{Known, Run, Texts, counted_for, counted_text, once, pauses_of, profiled, run_texts, writes_of}
 use Rattle.kc_kit_running.specs.Running.{machine_of, said_of, status_of, IsEndOf, IsUndefined}
 use Rattle.kc_kit_running.specs.Writing.{AreWritten, AreWrittenBy, IsRefusedAt}
+use Rattle.kc_kit_running.proofs.CountLemmas.{history-all}
 use Rattle.kc_kit_running.proofs.RunLemmas.{last-pause, run-failed, run-paused}
 
 -- ---- files that are all written, and memory that runs out behind them
@@ -131,13 +132,12 @@ never-begun run o ready = ((0, [], omega arith, refl, Puts-nothing o), ready)
 -- the texts behind it
 pub once-texts : (states now : ℕ) (k : Known) (m : Machine FittedUnit) (begun tally : Tally) (first statistics : Statistics) (profile cover : List ℕ) → m.time ≡ 0 → IsCount 1 [] [] begun first →
     IsTallyOf ([] ++ spots_for fitted_further now m) tally → spots_for fitted_further (states - m.time) m ≡ spots_for fitted_further now m → statistics.life ≡ 1 → AreStatisticsOf 1 (history fitted_further now m) statistics →
-    history fitted_further (max states m.time) m ≡ history fitted_further now m → profile ≡ counted_text scope.Life k.entries tally statistics → cover ≡ cover_text None statistics k.sources →
+    history fitted_further states m ≡ history fitted_further now m → profile ≡ counted_text scope.Life k.entries tally statistics → cover ≡ cover_text None statistics k.sources →
     record { profile = profile; cover = cover } ≡ run_texts k (counted_for fitted_further states m)
 once-texts states now k m begun tally first statistics profile cover start none counted all life are shown p c =
     let from : states - m.time ≡ states = omega (arith, start) in
-    let up : max states m.time ≡ states = omega (arith, start) in
     let spots : spots_for fitted_further now m ≡ spots_for fitted_further states m = sym all ∙ ap (λ n. spots_for fitted_further n m) from in
-    let sights : history fitted_further now m ≡ history fitted_further states m = sym shown ∙ ap (λ n. history fitted_further n m) up in
+    let sights : history fitted_further now m ≡ history fitted_further states m = sym shown in
     let one : tally ≡ tally_of (spots_for fitted_further states m) = tallies_are_one (spots_for fitted_further now m) tally counted ∙ ap tally_of spots in
     let other : statistics ≡ statistics_of 1 (history fitted_further states m) = statistics_are_one 1 (history fitted_further now m) statistics life are ∙ ap (statistics_of 1) sights in
     λ i. record {
@@ -164,29 +164,25 @@ pub machine-begins : (driving : Driving) (image : List ℕ) (m : Machine FittedU
 machine-begins driving image m e = subst Begins (sym e) (record { time = refl; pending = refl; handed = refl })
 
 -- in what it was counted
-pub once-statistics : (now : ℕ) (m n : Machine FittedUnit) (first statistics : Statistics) (result : Result End WriteFault) (how : End) → m.time ≡ 0 → Begins m → first.life ≡ 1 → AreStatisticsOf 1 [] first → result ≡ Ok how →
-    (m ≡ (run_to fitted_further m.time m).machine → AreStatisticsOf first.life (history fitted_further m.time m) first → OnOk result (AreStatisticsOf first.life (history fitted_further n.time m) statistics)) → now ≡ n.time - m.time →
-    AreStatisticsOf 1 (history fitted_further now m) statistics
-once-statistics now m n first statistics result how start begins life none is counted e =
+pub once-statistics : (m n : Machine FittedUnit) (first statistics : Statistics) → m.time ≡ 0 → Begins m → first.life ≡ 1 → AreStatisticsOf 1 [] first → CountsOn fitted_further first.life m first n statistics →
+    AreStatisticsOf 1 (history fitted_further (n.time - m.time) m) statistics
+once-statistics m n first statistics start begins life none counted =
     let zero : history fitted_further m.time m ≡ [] = ap (λ t. history fitted_further t m) start ∙ none-shown m in
     let there : AreStatisticsOf first.life (history fitted_further m.time m) first =
     subst (λ (sights : List Sight). AreStatisticsOf first.life sights first) (sym zero) (subst (λ (l : ℕ). AreStatisticsOf l [] first) (sym life) none) in
-    let same : m ≡ (run_to fitted_further m.time m).machine = still-there m in
-    let all : AreStatisticsOf first.life (history fitted_further n.time m) statistics = subst (λ (r : Result End WriteFault). OnOk r (AreStatisticsOf first.life (history fitted_further n.time m) statistics)) is (counted same there) in
-    let till : n.time ≡ now = omega (arith, start, e) in
+    let all : AreStatisticsOf first.life (history fitted_further n.time m) statistics = counted m begins (still-there m) there in
+    let till : n.time ≡ n.time - m.time = omega (arith, start) in
     subst (λ (t : ℕ). AreStatisticsOf 1 (history fitted_further t m) statistics) till (subst (λ (l : ℕ). AreStatisticsOf l (history fitted_further n.time m) statistics) life all)
   where
     none-shown : (m : Machine FittedUnit) → history fitted_further 0 m ≡ []
     unfolding history
     none-shown m = refl
 
-pub once-shown : (states now : ℕ) (m n : Machine FittedUnit) (result : Result End WriteFault) (how : End) → m.time ≡ 0 → result ≡ Ok how →
-    (m ≡ (run_to fitted_further m.time m).machine → m.time ≡ 0 → OnOk result (history fitted_further (max states m.time) m ≡ history fitted_further n.time m)) → now ≡ n.time - m.time →
-    history fitted_further (max states m.time) m ≡ history fitted_further now m
-once-shown states now m n result how start is shown e =
-    let all = subst (λ (r : Result End WriteFault). OnOk r (history fitted_further (max states m.time) m ≡ history fitted_further n.time m)) is (shown (still-there m) start) in
-    let till : n.time ≡ now = omega (arith, start, e) in
-    all ∙ ap (λ t. history fitted_further t m) till
+pub once-shown : (states : ℕ) (m n : Machine FittedUnit) → m.time ≡ 0 → n ≡ (run_to fitted_further states m).machine → n ≡ (run_to fitted_further n.time m).machine → n.time ≤ max states m.time →
+    history fitted_further states m ≡ history fitted_further (n.time - m.time) m
+once-shown states m n start is stands within =
+    let till : n.time ≡ n.time - m.time = omega (arith, start) in
+    history-all fitted_further states m n start is stands (omega (arith, within, start)) ∙ ap (λ t. history fitted_further t m) till
 
 -- what is known of it
 pub once-passed : (states : ℕ) (k : Known) (m : Machine FittedUnit) (old new : Out) (how : End) (texts : Texts) → how ≡ end_of (run_to fitted_further states m).machine → Puts old (trace_of (run_to fitted_further states m)) new → new.failed ≡ false →

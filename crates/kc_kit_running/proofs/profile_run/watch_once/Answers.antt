@@ -1,5 +1,4 @@
 use Rattle.std.proofs.Common.{◌≡◌, ◌∙◌, ◌+◌, ◌-◌, ◌<◌, ◌^◌, refl, sym, ap, subst, arith}
-use Rattle.std.specs.Prelude.{OnOk}
 use Rattle.kc_trace.specs.Out.{Puts}
 use Rattle.kc_trace.specs.Text.{text_of}
 use Rattle.kc_trace.specs.Trace.{out_of}
@@ -62,8 +61,8 @@ returns-in-Ok-accounts_of_run-clause-passed g c =
     let put = Puts-trace ran old _ new c.in-Ok-run_profiled.how n c.in-Ok-run_profiled.ensures.end c.in-Ok-run_profiled.ensures.machine c.run_profiled.ensures.lines c.write_finals.ensures.lines in
     let texts = once-texts c.args.states (n.time - m.time) k m c.in-Ok.account.profile c.run_profiled.new.profile c.in-Ok.account.statistics c.run_profiled.new.statistics _ _ start count
     (c.run_profiled.ensures.profile _ count.tally) c.in-Ok-run_profiled.ensures.all (c.run_profiled.ensures.life ∙ count.life)
-    (once-statistics (n.time - m.time) m n c.in-Ok.account.statistics c.run_profiled.new.statistics c.run_profiled.result c.in-Ok-run_profiled.how start begins count.life count.statistics c.in-Ok-run_profiled.is (c.run_profiled.ensures.statistics m begins) refl)
-    (once-shown c.args.states (n.time - m.time) m n c.run_profiled.result c.in-Ok-run_profiled.how start c.in-Ok-run_profiled.is (c.run_profiled.ensures.shown m) refl)
+    (once-statistics m n c.in-Ok.account.statistics c.run_profiled.new.statistics start begins count.life count.statistics c.in-Ok-run_profiled.ensures.statistics)
+    (once-shown c.args.states m n start c.in-Ok-run_profiled.ensures.machine c.run_profiled.ensures.stands c.run_profiled.ensures.within)
     c.in-Ok-accounts_of_run.ensures.profile c.in-Ok-accounts_of_run.ensures.cover in
     subst (λ (run : Run). HasPassed run old c.in-Ok-run_profiled.how (record { profile = c.in-Ok-accounts_of_run.accounts.profile.items; cover = c.in-Ok-accounts_of_run.accounts.cover.items }) new)
     (once-start c.args.states k c.args.board.driving c.args.board.image m c.in-Ok-fitted_machine.ensures)
