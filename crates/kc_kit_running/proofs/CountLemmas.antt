@@ -1,6 +1,5 @@
--- Counts that are few, and what a machine shows that has ended.
-use Rattle.std.proofs.Common.{◌≡◌, inl, ℕ, zero, suc, ◌+◌, ◌-◌, ◌≤◌, List, [], ◌∷◌, Option, Some, None, refl, sym, ◌∙◌, ap, arith}
-use Rattle.std.specs.Prelude.{All}
+-- What a machine shows that has ended.
+use Rattle.std.proofs.Common.{◌≡◌, inl, ℕ, zero, suc, ◌+◌, ◌-◌, ◌≤◌, Option, Some, None, refl, sym, ◌∙◌, ap, arith}
 use Rattle.kc_extra.specs.Further.{Further}
 use Rattle.kc_machine_spec.specs.declared.doing.End.{End}
 use Rattle.kc_machine_spec.specs.Machine.{Machine, Stepped}
@@ -8,33 +7,6 @@ use Rattle.kc_machine_spec.specs.Run.{run_for, run_to}
 use Rattle.kc_machine_spec.proofs.Runs.{run_for-add, run_for-ended}
 use Rattle.kc_cycles.proofs.Going.{Feeds, run-time}
 use Rattle.kc_profile.specs.Sights.{history, sight_of, unless_ended}
-use Rattle.kc_profile.specs.declared.spread.Spread.{Spread}
-use Rattle.kc_profile.specs.declared.waits.Waits.{Waits}
-use Rattle.kc_profile.specs.Spreads.{AreFew}
-use Rattle.kc_profile.specs.Waits.{AreFewWaits}
-use Rattle.kc_profile.specs.Statistics.{Statistics, AreAllFew}
-
-all-more : {A : Type 0} (P Q : A → Type 0) (xs : List A) → ((x : A) → P x → Q x) → All P xs → All Q xs
-all-more P Q [] f h = tt
-all-more P Q (x ∷ xs) f h = (f x h.0, all-more P Q xs f h.1)
-
-spread-more : (n k : ℕ) (s : Option Spread) → n ≤ k → AreFew n s → AreFew k s
-spread-more n k None le h = tt
-spread-more n k (Some s) le h = omega (arith, le, h)
-
-waits-more : (n k : ℕ) (w : Waits) → n ≤ k → AreFewWaits n w → AreFewWaits k w
-waits-more n k w le h = record { latency = spread-more n k w.latency le h.latency; served = spread-more n k w.served le h.served; missed = omega (arith, le, h.missed) }
-
--- a limit that is not less
-pub few-more : (n k : ℕ) (t : Statistics) → n ≤ k → AreAllFew n t → AreAllFew k t
-few-more n k t le h = record {
-  waits = all-more (AreFewWaits n) (AreFewWaits k) t.waits (λ w f. waits-more n k w le f) h.waits;
-  hits = all-more (λ m. m ≤ n) (λ m. m ≤ k) t.hits (λ m f. omega (arith, le, f)) h.hits;
-  taken = all-more (λ m. m ≤ n) (λ m. m ≤ k) t.taken (λ m f. omega (arith, le, f)) h.taken;
-  passed = all-more (λ m. m ≤ n) (λ m. m ≤ k) t.passed (λ m f. omega (arith, le, f)) h.passed;
-}
-
--- ---- a machine that has ended shows nothing more
 
 module _ {X : Type 0} (f : Further X) where
   ended-stays : (t k : ℕ) (m : Machine X) (how : End) → (run_for f t m).machine.ended ≡ Some how → (run_for f (t + k) m).machine ≡ (run_for f t m).machine

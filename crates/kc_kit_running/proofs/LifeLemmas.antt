@@ -10,6 +10,7 @@ use Rattle.kc_machine_spec.specs.Run.{run_for, run_to, end_of}
 use Rattle.kc_machine_spec.specs.Text.{HasRun}
 use Rattle.kc_profile.specs.declared.sight.Sight.{Sight}
 use Rattle.kc_profile.specs.declared.spot.Spot.{Spot}
+use Rattle.kc_profile.specs.Passing.{CountsOn}
 use Rattle.kc_profile.specs.Sights.{history, Begins}
 use Rattle.kc_profile.specs.Spots.{spots_for}
 use Rattle.kc_profile.specs.Statistics.{Statistics, AreAllFew, AreStatisticsOf}
@@ -154,3 +155,35 @@ module _
   way-broken lines failed =
       let put = along-lines watched_further m0 o0 s0 m.time (stop - m.time) m o s p way.along lines in
       record { lines = cut-lines watched_further deadline_of until m0 (m.time + (stop - m.time)) stop o0 p span.left failed put; failed = failed }
+
+-- ---- what is known of a span that was run
+
+run-none : (m : Machine WatchedUnit) → (run_for watched_further 0 m).machine ≡ m
+unfolding run_for
+run-none m = refl
+
+pub gone-forward : (m n : Machine WatchedUnit) (stop : ℕ) → m.time ≤ stop → (m.time < stop → m.time < n.time) → n ≡ (run_for watched_further (stop - m.time) m).machine → m.time ≤ n.time
+gone-forward m n stop le goes is = by (stop - m.time) refl
+  where
+    by : (k : ℕ) → stop - m.time ≡ k → m.time ≤ n.time
+    by zero e =
+        let same : n ≡ m = is ∙ ap (λ k. (run_for watched_further k m).machine) e ∙ run-none m in
+        let time : n.time ≡ m.time = ap (λ (k : Machine WatchedUnit). k.time) same in
+        omega (arith, time)
+    by (suc k) e = let up = goes (omega (arith, e)) in omega (arith, up)
+
+pub gone-of : (life : ℕ) (m0 m : Machine WatchedUnit) (tally : Tally) (statistics : Statistics) (n : Machine WatchedUnit) (later : Tally) (more : Statistics) → Begins m0 → m ≡ (run_for watched_further m.time m0).machine → IsCounted life m.time m0 tally statistics → m.time ≤ n.time →
+    ((before : List Spot) → IsTallyOf before tally → IsTallyOf (before ++ spots_for watched_further (n.time - m.time) m) later) → length (spots_for watched_further (n.time - m.time) m) ≡ n.time - m.time → more.life ≡ statistics.life →
+    CountsOn watched_further statistics.life m statistics n more → ((k : ℕ) → AreAllFew k statistics → AreAllFew (k + (n.time - m.time)) more) → HasGone life m0 m tally statistics n later more
+gone-of life m0 m tally statistics n later more begins is counted forward tallied passed same counts few =
+    let from : m.time ≡ m.time - m0.time = omega (arith, begins.time) in
+    let there : m ≡ (run_to watched_further m.time m0).machine = is ∙ ap (λ k. (run_for watched_further k m0).machine) from in
+    let own : AreStatisticsOf statistics.life (history watched_further m.time m0) statistics = subst (λ (l : ℕ). AreStatisticsOf l (history watched_further m.time m0) statistics) (sym counted.count.life) counted.count.statistics in
+    record {
+      forward = forward;
+      tally = tallied;
+      passed = passed;
+      life = same;
+      statistics = subst (λ (l : ℕ). AreStatisticsOf l (history watched_further n.time m0) more) counted.count.life (counts m0 begins there own);
+      few = few;
+    }

@@ -1,10 +1,8 @@
 // A run of an image that goes on after a reset and whose states are counted, each life apart.
-ghost use Rattle.std.specs.Prelude.{◌≡◌, ◌≤◌, ◌&&◌, ◌++◌, [], codes, nat_lt, Some, None, false, IfOk, IfErr, OnOk, OnErr};
+ghost use Rattle.std.specs.Prelude.{◌≡◌, ◌≤◌, ◌==◌, ◌&&◌, ◌||◌, [], is_some, nat_lt, None, false, IfOk, IfErr, OnOk, OnErr};
 ghost use Rattle.kc_trace.specs.Trace.{out_of};
-ghost use Rattle.kc_cover.specs.Cover.{cover_text};
 ghost use Rattle.kc_profile.specs.Sights.{history, Begins};
 ghost use Rattle.kc_profile.specs.Spots.{spots_for};
-ghost use Rattle.kc_profile.specs.declared.statistics_text.Scope.TheVariants as scopes;
 ghost use Rattle.kc_cycles.specs.Lives.{is_reset};
 ghost use Rattle.kc_cycles.specs.Making.{deadline_of};
 ghost use Rattle.kc_kit_words.specs.Values.{max_states, max_lives};
@@ -37,6 +35,13 @@ struct Ending {
     by_watchdog: bool,
 }
 
+// Whether a life goes no further than to this state.
+fn is_over(ended: Option<End>, stop: StateTime, until: StateTime) -> bool
+    ensures { result ≡ (is_some ended || (stop == until)) }
+{
+    ended.is_some() || stop == until
+}
+
 // Runs a machine up to an end, to its deadline or to the state `until`, and counts its states.
 fn live<S: Sink, L: Ledger>(
     machine: &mut WatchedMachine,
@@ -65,7 +70,7 @@ fn live<S: Sink, L: Ledger>(
             out,
             steps,
         )?;
-        if machine.ended().is_some() || stop == until {
+        if is_over(machine.ended(), stop, until) {
             return Ok(Ending {
                 how,
                 by_watchdog: false,

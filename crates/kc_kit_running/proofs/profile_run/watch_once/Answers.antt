@@ -12,7 +12,7 @@ use Rattle.kc_cycles.specs.declared.lives.LivesFault.TheVariants as fault
 use Rattle.kc_kit_running.specs.Fitted.{FittedUnit, fitted_further}
 use Rattle.kc_kit_running.specs.Passing.{HasFailed, HasPassed}
 use Rattle.kc_kit_running.specs.Profiled.{Run, known, once}
-use Rattle.kc_kit_running.proofs.CountLemmas.{few-more}
+use Rattle.kc_profile.proofs.Few.{few-more}
 use Rattle.kc_kit_running.proofs.ProfileLemmas.{machine-begins, never-begun, once-broken, once-passed, once-shown, once-start, once-statistics, once-texts, once-wanting}
 use Rattle.kc_kit_running.proofs.RunLemmas.{HasRun-start, Puts-trace}
 use Rattle.kc_kit_running.proofs.profile_run.watch_once.Goals as goal
