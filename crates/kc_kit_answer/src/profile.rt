@@ -9,6 +9,7 @@ ghost use Rattle.kc_kit_inputs.specs.Driving.{given_in, AreShort};
 ghost use Rattle.kc_kit_inputs.specs.FaultDiagnostics.{IsFaultDiagnostic};
 ghost use Rattle.kc_kit_inputs.specs.Sources.{AreModules};
 ghost use Rattle.kc_kit_running.specs.Profiled.{known};
+ghost use Rattle.kc_kit_running.specs.Sources.{ArePlacedIn};
 ghost use Rattle.kc_kit_answer.specs.Jobs.{IsBoardWithLines, IsPrepared, Prepares};
 ghost use Rattle.kc_kit_answer.specs.Places.{Placing};
 ghost use Rattle.kc_kit_answer.specs.Profile.{map_entry, AreEntries, AreLines, DrivenWithLines, FilledWithLines, LinesReported, ProfileAnswer, ProfileHexAnswer};
@@ -219,7 +220,8 @@ fn lines_of<'a>(
     requires count { length texts.now ≡ length names.now }
     requires made { AreModules (map (λ t. t.items) texts.now) modules.items }
     requires short { AllShort (map (λ t. t.items) texts.now) }
-    ensures { IfOk result (λ lines. AreLines (map string_bytes names.now) (map (λ t. t.items) texts.now) image.now modules.items placement.places (known lines)) }
+    ensures placed { IfOk result (λ lines. ArePlacedIn lines.linked) }
+    ensures lines { IfOk result (λ lines. AreLines (map string_bytes names.now) (map (λ t. t.items) texts.now) image.now modules.items placement.places (known lines)) }
 {
     let entries = entries_at(alloc, &modules, &placement)?;
     let sources = sources_at(alloc, names, texts, &modules, &placement, image)?;

@@ -70,13 +70,13 @@ way-begins until life m o s tally statistics begins lives unfed unbroken none = 
 }
 
 -- some states of it have passed and are counted
-pub record HasGone (life : ℕ) (m0 m : Machine WatchedUnit) (tally : Tally) (statistics : Statistics) (n : Machine WatchedUnit) (later : Tally) (more : Statistics) : Type 0 where
+pub record HasGone (number : ℕ) (m0 m : Machine WatchedUnit) (t : Tally) (s : Statistics) (n : Machine WatchedUnit) (later : Tally) (more : Statistics) : Type 0 where
   pub forward : m.time ≤ n.time
-  pub tally : (before : List Spot) → IsTallyOf before tally → IsTallyOf (before ++ spots_for watched_further (n.time - m.time) m) later
+  pub tally : (before : List Spot) → IsTallyOf before t → IsTallyOf (before ++ spots_for watched_further (n.time - m.time) m) later
   pub passed : length (spots_for watched_further (n.time - m.time) m) ≡ n.time - m.time
-  pub life : more.life ≡ statistics.life
-  pub statistics : AreStatisticsOf life (history watched_further n.time m0) more
-  pub few : (k : ℕ) → AreAllFew k statistics → AreAllFew (k + (n.time - m.time)) more
+  pub life : more.life ≡ s.life
+  pub statistics : AreStatisticsOf number (history watched_further n.time m0) more
+  pub few : (k : ℕ) → AreAllFew k s → AreAllFew (k + (n.time - m.time)) more
 
 pub more-counted : (life : ℕ) (m0 m : Machine WatchedUnit) (tally : Tally) (statistics : Statistics) (n : Machine WatchedUnit) (later : Tally) (more : Statistics) → m ≡ (run_for watched_further m.time m0).machine → IsCounted life m.time m0 tally statistics →
     HasGone life m0 m tally statistics n later more → IsCounted life n.time m0 later more

@@ -1,7 +1,8 @@
 // The lines of sources by the addresses of their bytes.
 ghost use Rattle.std.specs.Prelude.{◌≡◌, map, string_bytes, Some};
 ghost use Rattle.std.specs.Option.{option_map};
-ghost use Rattle.kc_kit_running.specs.Sources.{line_of, line_of_file, lines_in, lines_of_files};
+ghost use Rattle.kc_link.specs.Placed.{ArePlacedAt};
+ghost use Rattle.kc_kit_running.specs.Sources.{ArePlacedIn, line_of, line_of_file, lines_in, lines_of_files};
 
 use crate::sources::Sources;
 use kc_kit_messages::FileLine;
@@ -9,6 +10,7 @@ use kc_link::{SourceLine, source_line};
 
 /// The line of a file of which the bytes begin at an address, where sources are known.
 pub(crate) fn line_in<'s, 'a>(sources: &'s Option<Sources<'a>>, addr: u16) -> Option<FileLine<'s>>
+    requires { ArePlacedIn sources.now }
     ensures { option_map line_of result ≡ lines_in sources.now addr }
 {
     match sources {
@@ -19,6 +21,7 @@ pub(crate) fn line_in<'s, 'a>(sources: &'s Option<Sources<'a>>, addr: u16) -> Op
 
 // The same of sources.
 fn line_at<'s, 'a>(sources: &'s Sources<'a>, addr: u16) -> Option<FileLine<'s>>
+    requires { ArePlacedAt sources.now.modules.items sources.now.placement }
     ensures { option_map line_of result ≡ lines_of_files (map string_bytes sources.now.files.now) sources.now.modules.items sources.now.placement.places addr }
 {
     match source_line(&sources.modules, &sources.placement, addr) {

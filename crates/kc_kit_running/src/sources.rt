@@ -1,6 +1,4 @@
 // The sources of an image.
-ghost use Rattle.kc_link.specs.Placed.{ArePlacedAt};
-
 use kc_link::Placement;
 use kc_obj_module::Module;
 
@@ -10,5 +8,4 @@ pub struct Sources<'a> {
     pub files: &'a [String],
     pub modules: Vec<Module>,
     pub placement: Placement,
-    ghost placed: { ArePlacedAt modules.items placement },
 }
