@@ -5,4 +5,5 @@ pub mod ProfileLemmas
 pub mod RunLemmas
 pub mod ScriptLemmas
 pub mod SourceLemmas
+pub mod SumLemmas
 pub mod WritingLemmas
