@@ -44,6 +44,10 @@ pub record OnWay (until life : ℕ) (m0 : Machine WatchedUnit) (o0 : Out) (s0 : 
   pub unbroken : o.failed ≡ false
   pub counted : IsCounted life m.time m0 tally statistics
 
+none-shown : (m : Machine WatchedUnit) → history watched_further 0 m ≡ []
+unfolding history
+none-shown m = refl
+
 none-counted : (life : ℕ) (m : Machine WatchedUnit) (tally : Tally) (statistics : Statistics) → m.time ≡ 0 → IsCount life [] [] tally statistics → IsCounted life m.time m tally statistics
 none-counted life m tally statistics start none =
     let spots : spots_for watched_further m.time m ≡ [] = ap (λ t. spots_for watched_further t m) start ∙ spots-none watched_further m in
@@ -52,10 +56,6 @@ none-counted life m tally statistics start none =
       count = subst (λ (ss : List Spot). IsCount life ss (history watched_further m.time m) tally statistics) (sym spots) (subst (λ (hs : List Sight). IsCount life [] hs tally statistics) (sym sights) none);
       all = ap length spots ∙ sym start;
     }
-  where
-    none-shown : (m : Machine WatchedUnit) → history watched_further 0 m ≡ []
-    unfolding history
-    none-shown m = refl
 
 pub way-begins : (until life : ℕ) (m : Machine WatchedUnit) (o : Out) (s : ℕ) (tally : Tally) (statistics : Statistics) → Begins m → m.ended ≡ None → deadline_of m.board.units.further ≡ None → o.failed ≡ false → IsCount life [] [] tally statistics →
     OnWay until life m o s m o s tally statistics

@@ -163,6 +163,10 @@ once-start states k driving image m e = ap (once-of states k) e
 pub machine-begins : (driving : Driving) (image : List ℕ) (m : Machine FittedUnit) → m ≡ machine_of driving image → Begins m
 machine-begins driving image m e = subst Begins (sym e) (record { time = refl; pending = refl; handed = refl })
 
+none-shown : (m : Machine FittedUnit) → history fitted_further 0 m ≡ []
+unfolding history
+none-shown m = refl
+
 -- in what it was counted
 pub once-statistics : (m n : Machine FittedUnit) (first statistics : Statistics) → m.time ≡ 0 → Begins m → first.life ≡ 1 → AreStatisticsOf 1 [] first → CountsOn fitted_further first.life m first n statistics →
     AreStatisticsOf 1 (history fitted_further (n.time - m.time) m) statistics
@@ -173,10 +177,6 @@ once-statistics m n first statistics start begins life none counted =
     let all : AreStatisticsOf first.life (history fitted_further n.time m) statistics = counted m begins (still-there m) there in
     let till : n.time ≡ n.time - m.time = omega (arith, start) in
     subst (λ (t : ℕ). AreStatisticsOf 1 (history fitted_further t m) statistics) till (subst (λ (l : ℕ). AreStatisticsOf l (history fitted_further n.time m) statistics) life all)
-  where
-    none-shown : (m : Machine FittedUnit) → history fitted_further 0 m ≡ []
-    unfolding history
-    none-shown m = refl
 
 pub once-shown : (states : ℕ) (m n : Machine FittedUnit) → m.time ≡ 0 → n ≡ (run_to fitted_further states m).machine → n ≡ (run_to fitted_further n.time m).machine → n.time ≤ max states m.time →
     history fitted_further states m ≡ history fitted_further (n.time - m.time) m
