@@ -64,7 +64,7 @@ board-widen answer wide (Err refusal) f h = λ report. refused-widen (answer rep
 
 pub sources-widen : (answer wide : (FileLines → Driving → List ℕ → Response) → Response → Type 0) (b : Result (Board × Sources) Refusal) → ((report : FileLines → Driving → List ℕ → Response) (r : Response) → answer report r → wide report r) →
     IsBoardOfSources answer b → IsBoardOfSources wide b
-sources-widen answer wide (Ok made) f h = λ report. f report (report (lines_in (Some made.1)) made.0.driving made.0.image) (h report)
+sources-widen answer wide (Ok made) f h = (h.0, λ report. f report (report (lines_in (Some made.1)) made.0.driving made.0.image) (h.1 report))
 sources-widen answer wide (Err refusal) f h = λ report. refused-widen (answer report) (wide report) refusal (f report) (h report)
 
 pub prepared-widen : (may wide : Response → Type 0) (p : Result Job Refusal) → ((r : Response) → may r → wide r) → IsPrepared may p → IsPrepared wide p

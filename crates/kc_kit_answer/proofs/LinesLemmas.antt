@@ -25,7 +25,7 @@ use Rattle.kc_kit_answer.proofs.SourceLemmas.{image-of}
 -- what is answered by a board and its line map may be answered more widely
 pub lines-widen : (answer wide : (Known → Driving → List ℕ → Response) → Response → Type 0) (b : Result (Board × Lines) Refusal) → ((report : Known → Driving → List ℕ → Response) (r : Response) → answer report r → wide report r) →
     IsBoardWithLines answer b → IsBoardWithLines wide b
-lines-widen answer wide (Ok made) f h = λ report. f report (report (known made.1) made.0.driving made.0.image) (h report)
+lines-widen answer wide (Ok made) f h = (h.0, λ report. f report (report (known made.1) made.0.driving made.0.image) (h.1 report))
 lines-widen answer wide (Err refusal) f h = λ report. refused-widen (answer report) (wide report) refusal (f report) (h report)
 
 -- what is known of the lines in the image that modules are filled into is known of them in the image that is linked from sources

@@ -30,7 +30,7 @@ use Rattle.kc_kit_running.specs.Scripted.{debugger_response}
 use Rattle.kc_kit_running.specs.Counted.{summary_of}
 use Rattle.kc_kit_running.specs.Lives.{board_response}
 use Rattle.kc_kit_running.specs.Profiled.{Known, known, profile_response}
-use Rattle.kc_kit_running.specs.Sources.{FileLines, lines_in}
+use Rattle.kc_kit_running.specs.Sources.{ArePlacedIn, FileLines, lines_in}
 use Rattle.kc_kit_running.specs.declared.sources.Sources.{Sources}
 use Rattle.kc_kit_running.specs.Writing.{written}
 
@@ -55,8 +55,8 @@ does (job.Write file lines map) = done_writing (written file ∷ maybe_written l
 
 -- state times and lives within their limits, and addresses in order
 abbrev pub IsDoable : Job → Type 0
-IsDoable (job.Run board sources extent) = IsBounded extent
-IsDoable (job.Profile board extent lines behind) = IsBounded extent
+IsDoable (job.Run board sources extent) = IsBounded extent × ArePlacedIn sources
+IsDoable (job.Profile board extent lines behind) = IsBounded extent × ArePlacedIn lines.linked
 IsDoable (job.Count board number) = Unit {0}
 IsDoable (job.List image first last) = (image_start ≤ first) × (first ≤ last)
 IsDoable (job.Debug board lives script lines) = AreLives lives
@@ -75,12 +75,14 @@ IsBoard answer (Err refusal) = (report : Driving → List ℕ → Response) → 
 
 -- a board with the sources of its image
 abbrev pub IsBoardOfSources : ((FileLines → Driving → List ℕ → Response) → Response → Type 0) → Result (Board × Sources) Refusal → Type 0
-IsBoardOfSources answer (Ok made) = (report : FileLines → Driving → List ℕ → Response) → answer report (report (lines_in (Some made.1)) made.0.driving made.0.image)
+IsBoardOfSources answer (Ok made) =
+    ArePlacedIn (Some made.1) × ((report : FileLines → Driving → List ℕ → Response) → answer report (report (lines_in (Some made.1)) made.0.driving made.0.image))
 IsBoardOfSources answer (Err refusal) = (report : FileLines → Driving → List ℕ → Response) → IsRefused (answer report) refusal
 
 -- a board with what is known of the lines of its sources
 abbrev pub IsBoardWithLines : ((Known → Driving → List ℕ → Response) → Response → Type 0) → Result (Board × Lines) Refusal → Type 0
-IsBoardWithLines answer (Ok made) = (report : Known → Driving → List ℕ → Response) → answer report (report (known made.1) made.0.driving made.0.image)
+IsBoardWithLines answer (Ok made) =
+    ArePlacedIn made.1.linked × ((report : Known → Driving → List ℕ → Response) → answer report (report (known made.1) made.0.driving made.0.image))
 IsBoardWithLines answer (Err refusal) = (report : Known → Driving → List ℕ → Response) → IsRefused (answer report) refusal
 
 -- a job or a refusal, of which the response may be given

@@ -10,7 +10,7 @@ ghost use Rattle.kc_kit_answer.specs.Hex.{HexReported};
 ghost use Rattle.kc_kit_answer.specs.Jobs.{IsBoard, IsBoardOfSources};
 ghost use Rattle.kc_kit_answer.specs.Places.{Placing};
 ghost use Rattle.kc_kit_answer.specs.Run.{Driven, FilledReported, RunReported, SourcesReported};
-ghost use Rattle.kc_kit_running.specs.Sources.{lines_in, lines_of_files};
+ghost use Rattle.kc_kit_running.specs.Sources.{ArePlacedIn, lines_in, lines_of_files};
 
 use crate::placing::place_modules;
 use kc_asm::linked_image;
@@ -123,7 +123,8 @@ pub(crate) fn sources_of<'a>(
     placement: Placement,
 ) -> Sources<'a>
     requires { ArePlacedAt modules.items placement }
-    ensures { lines_in (Some result) ≡ lines_of_files (map string_bytes files.now) modules.items placement.places }
+    ensures placed { ArePlacedIn (Some result) }
+    ensures lines { lines_in (Some result) ≡ lines_of_files (map string_bytes files.now) modules.items placement.places }
 {
     Sources {
         files,

@@ -7,7 +7,9 @@ ghost use Rattle.kc_kit_words.specs.Asked.{asked, behind_in, AreLinkable, IsBoun
 ghost use Rattle.kc_kit_words.specs.Inputs.{inputs_in};
 ghost use Rattle.kc_kit_inputs.specs.Driving.{given_in, AreShort};
 ghost use Rattle.kc_kit_inputs.specs.FaultDiagnostics.{IsFaultDiagnostic};
+ghost use Rattle.kc_kit_inputs.specs.Sources.{AreModules};
 ghost use Rattle.kc_kit_running.specs.Profiled.{known};
+ghost use Rattle.kc_kit_running.specs.Sources.{ArePlacedIn};
 ghost use Rattle.kc_kit_answer.specs.Jobs.{IsBoardWithLines, IsPrepared, Prepares};
 ghost use Rattle.kc_kit_answer.specs.Places.{Placing};
 ghost use Rattle.kc_kit_answer.specs.Profile.{map_entry, AreEntries, AreLines, DrivenWithLines, FilledWithLines, LinesReported, ProfileAnswer, ProfileHexAnswer};
@@ -161,7 +163,7 @@ fn linked<'a>(
 ) -> Result<(Board, Lines<'a>), Refusal>
     requires linkable { AreLinkable (length modules.items) placing.now }
     requires count { length texts.now ≡ length names.now }
-    requires modules { length modules.items ≡ length names.now }
+    requires made { AreModules (map (λ t. t.items) texts.now) modules.items }
     requires short { AllShort (map (λ t. t.items) texts.now) }
     requires given { AreShort given }
     ensures { IsBoardWithLines (λ report. Placing (map string_bytes names.now) placing.now (DrivenWithLines (given_in given.entry) (FilledWithLines (map string_bytes names.now) (map (λ t. t.items) texts.now)) report) modules.items) result }
@@ -187,7 +189,7 @@ fn linked_at<'a>(
 ) -> Result<(Board, Lines<'a>), Refusal>
     requires placed { ArePlacedAt modules.items placement }
     requires count { length texts.now ≡ length names.now }
-    requires modules { length modules.items ≡ length names.now }
+    requires made { AreModules (map (λ t. t.items) texts.now) modules.items }
     requires short { AllShort (map (λ t. t.items) texts.now) }
     requires given { AreShort given }
     ensures { IsBoardWithLines (λ report. DrivenWithLines (given_in given.entry) (FilledWithLines (map string_bytes names.now) (map (λ t. t.items) texts.now)) report modules.items placement.places) result }
@@ -216,9 +218,10 @@ fn lines_of<'a>(
 ) -> Result<Lines<'a>, NoMemory>
     requires placed { ArePlacedAt modules.items placement }
     requires count { length texts.now ≡ length names.now }
-    requires modules { length modules.items ≡ length names.now }
+    requires made { AreModules (map (λ t. t.items) texts.now) modules.items }
     requires short { AllShort (map (λ t. t.items) texts.now) }
-    ensures { IfOk result (λ lines. AreLines (map string_bytes names.now) (map (λ t. t.items) texts.now) image.now modules.items placement.places (known lines)) }
+    ensures placed { IfOk result (λ lines. ArePlacedIn lines.linked) }
+    ensures lines { IfOk result (λ lines. AreLines (map string_bytes names.now) (map (λ t. t.items) texts.now) image.now modules.items placement.places (known lines)) }
 {
     let entries = entries_at(alloc, &modules, &placement)?;
     let sources = sources_at(alloc, names, texts, &modules, &placement, image)?;

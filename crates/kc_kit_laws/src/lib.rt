@@ -9,7 +9,9 @@ ghost use Rattle.kc_kit_laws.specs.Readable.{WrittenIsReadable};
 ghost use Rattle.kc_kit_laws.specs.StartLevels.{StartLevelsAgree};
 
 use kc_asm::linked_image;
-use kc_asm_laws::{filled_are_bytes, modules_fit, one_answer_of_text, one_instructions, one_listing, one_origin};
+use kc_asm_laws::{
+    filled_are_bytes, modules_fit, one_answer_of_text, one_instructions, one_listing, one_origin,
+};
 use kc_hex::written_is_read;
 use kc_lib::laws::taken_once;
 use kc_link::{one_image, one_line_map};

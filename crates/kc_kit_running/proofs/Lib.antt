@@ -1,8 +1,9 @@
-pub mod AccountLemmas
+pub mod CountLemmas
+pub mod LifeLemmas
 pub mod LivesLemmas
 pub mod ProfileLemmas
 pub mod RunLemmas
 pub mod ScriptLemmas
 pub mod SourceLemmas
-pub mod WatchLemmas
+pub mod SumLemmas
 pub mod WritingLemmas

@@ -35,7 +35,7 @@ use Rattle.kc_kit_running.specs.Running.{machine_of, run_of, run_response, ends_
 -- ---- how a command has ended whose run has ended so
 
 -- behind other pauses
-last-pause : (P : List ℕ → Type 0) (pauses : List (List ℕ)) (text : List ℕ) → P text → Any P (pauses ++ text ∷ [])
+pub last-pause : (P : List ℕ → Type 0) (pauses : List (List ℕ)) (text : List ℕ) → P text → Any P (pauses ++ text ∷ [])
 last-pause P pauses text p = (length pauses, text, omega (arith, length_push pauses text), get_or_push pauses text text (length pauses) refl, p)
 
 -- a pause of some is one of those and of more

@@ -21,11 +21,11 @@ use Rattle.kc_kit_running.specs.Watched.{WatchedUnit, watched_further}
 use Rattle.kc_kit_running.specs.Writing.{AreWritten}
 
 -- its text is printed whole, and what was counted is in these texts
-pub record HasPassed (run : Run) (old : Out) (how : End) (texts : Texts) (new : Out) : Type 0 where
-  pub how : how ≡ run.how
+pub record HasPassed (run : Run) (old : Out) (ended : End) (behind : Texts) (new : Out) : Type 0 where
+  pub how : ended ≡ run.how
   pub lines : Puts old run.text new
   pub written : new.failed ≡ false
-  pub texts : texts ≡ run.texts
+  pub texts : behind ≡ run.texts
 
 -- the sink failed in the text, or memory ran out at a pause
 abbrev pub HasFailed : Run → Out → LivesFault → Out → Type 0
@@ -43,12 +43,12 @@ abbrev pub life_of : ℕ → Machine WatchedUnit → Life WatchedUnit
 life_of until m = life_for watched_further deadline_of until m
 
 -- it has ended so, and its lines are put
-pub record HasLived (until : ℕ) (m : Machine WatchedUnit) (old : Out) (how : End) (by_watchdog : Bool) (n : Machine WatchedUnit) (new : Out) : Type 0 where
-  pub how : how ≡ (life_of until m).how
-  pub by_watchdog : by_watchdog ≡ (life_of until m).by_watchdog
+pub record HasLived (until : ℕ) (m : Machine WatchedUnit) (old : Out) (ended : End) (late : Bool) (n : Machine WatchedUnit) (new : Out) : Type 0 where
+  pub how : ended ≡ (life_of until m).how
+  pub by_watchdog : late ≡ (life_of until m).by_watchdog
   pub machine : n ≡ (life_of until m).ran.machine
   pub lines : Puts old (text_of (life_of until m).ran.records) new
-  pub ran : HasRun how n.time
+  pub ran : HasRun ended n.time
   pub within : n.time ≤ until
   pub written : new.failed ≡ false
 

@@ -4,6 +4,7 @@ use Rattle.std.specs.Option.{option_map}
 use Rattle.kc_obj_module.specs.Object.{Object}
 use Rattle.kc_link_place.specs.Placing.{Places}
 use Rattle.kc_link.specs.declared.addresses.SourceLine.{SourceLine}
+use Rattle.kc_link.specs.Placed.{ArePlacedAt}
 use Rattle.kc_link.specs.SourceLine.{source_line}
 use Rattle.kc_kit_messages.specs.declared.uses.FileLine.{FileLine as LineShown}
 use Rattle.kc_kit_messages.specs.Uses.{FileLine}
@@ -28,6 +29,11 @@ line_of_file files (Some at) = option_map (λ file. record { file = file; line =
 -- of modules at their places, one of each of these files
 abbrev pub lines_of_files : List (List ℕ) → List Object → Places → FileLines
 lines_of_files files ms places addr = line_of_file files (source_line ms places addr)
+
+-- modules stand where their placement says
+abbrev pub ArePlacedIn : Option Sources → Type 0
+ArePlacedIn None = Unit {0}
+ArePlacedIn (Some sources) = ArePlacedAt sources.modules.items sources.placement
 
 abbrev pub lines_in : Option Sources → FileLines
 lines_in None = no_lines

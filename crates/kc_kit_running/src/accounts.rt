@@ -110,7 +110,13 @@ impl Accounts {
         ensures profile { OnOk result (self.new.profile.items ≡ self.old.profile.items ++ counted_text scope lines.now.entries.items account.now.profile account.now.statistics) }
         ensures cover { self.new.cover ≡ self.old.cover }
     {
-        let text = report(alloc, &account.profile, &account.statistics, &lines.entries, scope)?;
+        let text = report(
+            alloc,
+            &account.profile,
+            &account.statistics,
+            &lines.entries,
+            scope,
+        )?;
         self.profile.extend_from_slice(&text)?;
         Ok(())
     }
@@ -142,7 +148,12 @@ impl Accounts {
     {
         put_heading(&mut self.profile, b"life ", life)?;
         self.put_profile(alloc, account, lines, Scope::Life)?;
-        put_sources(&mut self.cover, &lines.sources, Some(life), &account.statistics)
+        put_sources(
+            &mut self.cover,
+            &lines.sources,
+            Some(life),
+            &account.statistics,
+        )
     }
 
     /// Adds the sums of so many lives to the profile.

@@ -7,12 +7,13 @@ ghost use Rattle.kc_kit_words.specs.Values.{max_states};
 ghost use Rattle.kc_kit_words.specs.Asked.{IsBounded};
 ghost use Rattle.kc_kit_running.specs.Lives.{board_response};
 ghost use Rattle.kc_kit_running.specs.Running.{run_of, run_response, IsEndOf};
-ghost use Rattle.kc_kit_running.specs.Sources.{lines_in};
+ghost use Rattle.kc_kit_running.specs.Sources.{ArePlacedIn, lines_in};
 
 use crate::board::Board;
 use crate::fitted::fitted_machine;
 use crate::lives_run::run_board_lives;
-use crate::sources::{Sources, line_in};
+use crate::source_lines::line_in;
+use crate::sources::Sources;
 use kc_base::{NoMemory, Sink, Steps};
 use kc_kit_files::{Ended, Said, Status};
 use kc_kit_messages::use_diagnostic;
@@ -33,6 +34,7 @@ pub fn run_board<S: Sink, L: Ledger>(
 ) -> Ended<'static>
     requires ready { out.old.failed ≡ false }
     requires bounded { IsBounded extent }
+    requires placed { ArePlacedIn sources.now }
     requires fresh { IsFresh blank L.name L.parts }
     requires whole { blank.parts ≡ 1 }
     ensures { EndsPrinting (λ response. response ≡ board_response (lines_in sources.now) extent board.driving board.image) (shown_by S.written S.faults out.old.sink) result (shown_by S.written S.faults out.new.sink) }
@@ -56,6 +58,7 @@ fn run_once<S: Sink, L: Ledger>(
 ) -> Ended<'static>
     requires ready { out.old.failed ≡ false }
     requires states { states ≤ max_states }
+    requires placed { ArePlacedIn sources.now }
     requires fresh { IsFresh blank L.name L.parts }
     requires whole { blank.parts ≡ 1 }
     ensures { EndsPrinting (λ response. response ≡ run_response (lines_in sources.now) (run_of states board.driving board.image)) (shown_by S.written S.faults out.old.sink) result (shown_by S.written S.faults out.new.sink) }
@@ -75,6 +78,7 @@ fn run_once<S: Sink, L: Ledger>(
 
 /// How a command has ended whose run has ended so, with what is said of it in words.
 pub(crate) fn ended_run(alloc: Global, sources: &Option<Sources<'_>>, how: End) -> Ended<'static>
+    requires { ArePlacedIn sources.now }
     ensures { IsEndOf (lines_in sources.now) how result }
 {
     match how {

@@ -14,6 +14,7 @@ mod lives_run;
 mod output;
 mod profile_lives;
 mod profile_run;
+mod source_lines;
 mod sources;
 
 pub use accounts::Lines;

@@ -5,7 +5,7 @@ ghost use Rattle.kc_kit_files.specs.Ended.{EndsPrinting};
 ghost use Rattle.kc_kit_files.specs.Outside.{shown_by};
 ghost use Rattle.kc_kit_words.specs.Values.{max_states, max_lives};
 ghost use Rattle.kc_kit_running.specs.Lives.{board_lives, lives_response};
-ghost use Rattle.kc_kit_running.specs.Sources.{lines_in};
+ghost use Rattle.kc_kit_running.specs.Sources.{ArePlacedIn, lines_in};
 
 use crate::board::Board;
 use crate::fitting::Fitting;
@@ -31,6 +31,7 @@ pub(crate) fn run_board_lives<S: Sink, L: Ledger>(
 ) -> Ended<'static>
     requires ready { out.old.failed ≡ false }
     requires states { states ≤ max_states }
+    requires placed { ArePlacedIn sources.now }
     requires some { 1 ≤ lives }
     requires few { lives ≤ max_lives }
     requires fresh { IsFresh blank L.name L.parts }

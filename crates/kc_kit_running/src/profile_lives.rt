@@ -1,17 +1,19 @@
 // A run of an image that goes on after a reset and whose states are counted, each life apart.
-ghost use Rattle.std.specs.Prelude.{◌≡◌, ◌≤◌, ◌&&◌, ◌++◌, [], codes, nat_lt, Some, None, false, IfOk, IfErr, OnOk, OnErr};
+ghost use Rattle.std.specs.Prelude.{◌≡◌, ◌≤◌, ◌<◌, ◌+◌, ◌-◌, ◌^◌, ◌==◌, ◌&&◌, ◌||◌, ◌++◌, ◌∷◌, [], List, codes, length, is_some, nat_lt, Some, None, false, IfOk, IfErr, OnOk, OnErr};
 ghost use Rattle.kc_trace.specs.Trace.{out_of};
-ghost use Rattle.kc_cover.specs.Cover.{cover_text};
 ghost use Rattle.kc_profile.specs.Sights.{history, Begins};
 ghost use Rattle.kc_profile.specs.Spots.{spots_for};
-ghost use Rattle.kc_profile.specs.declared.statistics_text.Scope.TheVariants as scopes;
 ghost use Rattle.kc_cycles.specs.Lives.{is_reset};
 ghost use Rattle.kc_cycles.specs.Making.{deadline_of};
 ghost use Rattle.kc_kit_words.specs.Values.{max_states, max_lives};
-ghost use Rattle.kc_kit_running.specs.Counting.{IsCount};
+ghost use Rattle.kc_cover.specs.Cover.{cover_text};
+ghost use Rattle.kc_profile.specs.declared.statistics_text.Scope.TheVariants as scopes;
+ghost use Rattle.kc_profile.specs.Statistics.{AreAllFew};
+ghost use Rattle.kc_profile.specs.Tally.{total};
+ghost use Rattle.kc_kit_running.specs.Counting.{IsCount, IsSum};
 ghost use Rattle.kc_kit_running.specs.Lives.{board_lives};
 ghost use Rattle.kc_kit_running.specs.Passing.{HasBroken, HasFailed, HasLived, HasPassed};
-ghost use Rattle.kc_kit_running.specs.Profiled.{known, over_lives};
+ghost use Rattle.kc_kit_running.specs.Profiled.{Counted, counted_text, heading, known, lives_cover, lives_profile, lives_texts, over_lives};
 ghost use Rattle.kc_kit_running.specs.Watched.{watched_further};
 
 use crate::accounts::{Account, Accounts, Lines, Watched};
@@ -35,6 +37,13 @@ type WatchedMachine = Machine<Pair<FittedUnit, Watchdog>>;
 struct Ending {
     how: End,
     by_watchdog: bool,
+}
+
+// Whether a life goes no further than to this state.
+fn is_over(ended: Option<End>, stop: StateTime, until: StateTime) -> bool
+    ensures { result ≡ (is_some ended || (stop == until)) }
+{
+    ended.is_some() || stop == until
 }
 
 // Runs a machine up to an end, to its deadline or to the state `until`, and counts its states.
@@ -65,7 +74,7 @@ fn live<S: Sink, L: Ledger>(
             out,
             steps,
         )?;
-        if machine.ended().is_some() || stop == until {
+        if is_over(machine.ended(), stop, until) {
             return Ok(Ending {
                 how,
                 by_watchdog: false,
@@ -95,7 +104,14 @@ fn account_for(
     lines: &Lines<'_>,
     accounts: &mut Accounts,
     sums: &mut Account,
-) -> Result<(), NoMemory> {
+) -> Result<(), NoMemory>
+    requires room { total sums.old.profile + total account.now.profile < 2 ^ 64 }
+    requires few { AreAllFew (2 ^ 63 - 1) sums.old.statistics }
+    requires later { AreAllFew (2 ^ 63 - 1) account.now.statistics }
+    ensures profile { OnOk result (accounts.new.profile.items ≡ accounts.old.profile.items ++ (heading (codes "life ") life ++ counted_text scopes.Life lines.now.entries.items account.now.profile account.now.statistics)) }
+    ensures cover { OnOk result (accounts.new.cover.items ≡ accounts.old.cover.items ++ cover_text (Some life) account.now.statistics lines.now.sources.items) }
+    ensures sums { OnOk result ((lives : List Counted) (c : Counted) → life ≡ 1 + length lives → IsSum lives sums.old.profile sums.old.statistics → IsCount life c.spots c.sights account.now.profile account.now.statistics → IsSum (lives ++ c ∷ []) sums.new.profile sums.new.statistics) }
+{
     accounts.put_life(alloc, life, account, lines)?;
     sums.add(account);
     Ok(())
@@ -172,7 +188,14 @@ fn last_accounts(
     lines: &Lines<'_>,
     accounts: Accounts,
     sums: Account,
-) -> Result<Accounts, NoMemory> {
+) -> Result<Accounts, NoMemory>
+    requires room { total sums.profile + total account.now.profile < 2 ^ 64 }
+    requires few { AreAllFew (2 ^ 63 - 1) sums.statistics }
+    requires later { AreAllFew (2 ^ 63 - 1) account.now.statistics }
+    ensures { IfOk result (λ all. (lives : List Counted) (c : Counted) → life ≡ 1 + length lives → IsSum lives sums.profile sums.statistics → IsCount life c.spots c.sights account.now.profile account.now.statistics
+        → accounts.profile.items ≡ lives_profile (known lines.now) 1 lives → accounts.cover.items ≡ lives_cover (known lines.now) 1 lives
+        → record { profile = all.profile.items; cover = all.cover.items } ≡ lives_texts (known lines.now) (lives ++ c ∷ [])) }
+{
     let mut all = accounts;
     let mut sum = sums;
     account_for(alloc, life, account, lines, &mut all, &mut sum)?;

@@ -9,7 +9,7 @@ ghost use Rattle.kc_kit_files.specs.Outside.{kept};
 ghost use Rattle.kc_kit_words.specs.Asked.{behind_in, IsBounded};
 ghost use Rattle.kc_kit_words.specs.Values.{max_states};
 ghost use Rattle.kc_kit_running.specs.Passing.{HasFailed, HasFinished, HasPassed};
-ghost use Rattle.kc_kit_running.specs.Sources.{lines_in};
+ghost use Rattle.kc_kit_running.specs.Sources.{ArePlacedIn, lines_in};
 ghost use Rattle.kc_kit_running.specs.Profiled.{counted_text, known, once, profile_response, run_over, writes_of};
 
 use crate::accounts::{Account, Accounts, Lines, Watched};
@@ -40,6 +40,7 @@ pub fn profile_board<'a, F: Files, S: Sink, L: Ledger>(
 ) -> Ended<'a>
     requires ready { out.old.failed ≡ false }
     requires bounded { IsBounded extent }
+    requires placed { ArePlacedIn lines.now.linked }
     requires fresh { IsFresh blank L.name L.parts }
     requires whole { blank.parts ≡ 1 }
     ensures response { Ends F.held F.write_faults S.written S.faults (λ response. response ≡ profile_response extent (behind_in behind.entry) (known lines.now) board.driving board.image) files.old out.old.sink result files.new out.new.sink }
@@ -134,6 +135,7 @@ fn finish<'a, F: Files>(
     behind: Behind<'a>,
     files: &mut F,
 ) -> Ended<'a>
+    requires { ArePlacedIn lines.now.linked }
     ensures finished { HasFinished (lines_in lines.now.linked) watched.how (writes_of (behind_in behind.entry) (record { profile = watched.accounts.profile.items; cover = watched.accounts.cover.items })) (kept (F.held files.old) (F.write_faults files.old)) result (kept (F.held files.new) (F.write_faults files.new)) }
     ensures no_read { F.read_faults files.new ≡ F.read_faults files.old }
 {

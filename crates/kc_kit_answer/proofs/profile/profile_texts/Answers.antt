@@ -12,7 +12,7 @@ pub returns-in-Ok : goal.returns-in-Ok
 returns-in-Ok c =
     let run = c.args.run.now in
     let report : Known → Driving → List ℕ → Response = profile_response run.extent (behind_in run.behind) in
-    (subst (λ s. LinesReported IsFaultDiagnostic (map string_bytes run.files.now) s run.placing (texts_in c.args.texts.now) report (report (known c.in-Ok.lines) c.in-Ok.board.driving c.in-Ok.board.image)) c.given_for-given.ensures.given (c.in-Ok.ensures report), c.requires.within.0)
+    (subst (λ s. LinesReported IsFaultDiagnostic (map string_bytes run.files.now) s run.placing (texts_in c.args.texts.now) report (report (known c.in-Ok.lines) c.in-Ok.board.driving c.in-Ok.board.image)) c.given_for-given.ensures.given (c.in-Ok.ensures.1 report), (c.requires.within.0, c.in-Ok.ensures.0))
 
 pub returns-in-Err : goal.returns-in-Err
 returns-in-Err c =

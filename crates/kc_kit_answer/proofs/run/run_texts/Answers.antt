@@ -12,7 +12,7 @@ pub returns-in-Ok : goal.returns-in-Ok
 returns-in-Ok c =
     let run = c.args.run.now in
     let report : FileLines → Driving → List ℕ → Response = λ lines. board_response lines run.extent in
-    (subst (λ s. RunReported IsFaultDiagnostic (map string_bytes run.files.now) s run.placing (texts_in c.args.texts.now) report (report (lines_in (Some c.in-Ok.sources)) c.in-Ok.board.driving c.in-Ok.board.image)) c.given_for-given.ensures.given (c.in-Ok.ensures report), c.requires.within.0)
+    (subst (λ s. RunReported IsFaultDiagnostic (map string_bytes run.files.now) s run.placing (texts_in c.args.texts.now) report (report (lines_in (Some c.in-Ok.sources)) c.in-Ok.board.driving c.in-Ok.board.image)) c.given_for-given.ensures.given (c.in-Ok.ensures.1 report), (c.requires.within.0, c.in-Ok.ensures.0))
 
 pub returns-in-Err : goal.returns-in-Err
 returns-in-Err c =

@@ -10,7 +10,7 @@ pub returns-in-Ok : goal.returns-in-Ok
 returns-in-Ok c =
     let run = c.args.run.now in
     let report : Driving → List ℕ → Response = board_response no_lines run.extent in
-    (subst (λ s. HexReported run.file.now s c.args.text.now report (report c.in-Ok.board.driving c.in-Ok.board.image)) c.given_for-given.ensures.given (c.in-Ok.ensures report), c.requires.bounded)
+    (subst (λ s. HexReported run.file.now s c.args.text.now report (report c.in-Ok.board.driving c.in-Ok.board.image)) c.given_for-given.ensures.given (c.in-Ok.ensures report), (c.requires.bounded, tt))
 
 pub returns-in-Err : goal.returns-in-Err
 returns-in-Err c =
