@@ -41,7 +41,7 @@ _kc96() {
         return
     fi
     case $command in
-    run) options='--states --lives --profile --stim --analog --reg --code --data --stack' files='a96' ;;
+    run) options='--states --lives --profile --cover --stim --analog --reg --code --data --stack' files='a96' ;;
     asm) options='--out --list' files='a96' ;;
     lib) options='--out' files='obj' ;;
     link) options='--out --lib --lines --map --reg --code --data --stack' files='obj' ;;
@@ -49,11 +49,11 @@ _kc96() {
     dis) options='' files='hex' ;;
     vcd) options='--out --stim --analog --clock' files='trace' ;;
     check) options='--stim --clock' files='trace' ;;
-    debug) options='--stim --analog --lines' files='hex' ;;
+    debug) options='--lives --stim --analog --lines' files='hex' ;;
     *) return ;;
     esac
     case $before in
-    --stim | --analog | --out | --lib | --list | --lines | --map | --profile)
+    --stim | --analog | --out | --lib | --list | --lines | --map | --profile | --cover)
         compopt -o filenames
         _kc96_files "$word"
         return
@@ -62,9 +62,6 @@ _kc96() {
     esac
     for option in $options; do
         _kc96_stands "$option" && continue
-        # A profile is of one life.
-        [[ $option != --lives ]] || ! _kc96_stands --profile || continue
-        [[ $option != --profile ]] || ! _kc96_stands --lives || continue
         left="$left $option"
     done
     if [[ $word == -* ]]; then

@@ -63,6 +63,7 @@ ROWS = [
     "run nop.a96 --states 1 --stim falls.stm",
     "run nop.a96 --states 1 --analog good.ana",
     "run pulse.a96 --states 100 --profile new.prof",
+    "run pulse.a96 --states 100 --lives 2 --profile new.prof --cover new.info",
     "asm crank.a96 --out new.obj",
     "asm nop.a96 --out new.obj --list new.lst",
     "lib main.obj crank.obj log.obj --out new.lib",
@@ -87,7 +88,7 @@ ROWS = [
     "run --states",
 ]
 
-WRITING = ("--out", "--lines", "--map", "--list", "--profile")
+WRITING = ("--out", "--lines", "--map", "--list", "--profile", "--cover")
 OLD = b"as it was\n"
 
 

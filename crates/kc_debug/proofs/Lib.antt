@@ -5,3 +5,7 @@ pub mod Passing
 pub mod Scripts
 pub mod Shown
 pub mod Going
+pub mod Lived
+pub mod Kept
+pub mod Settled
+pub mod Scripted

@@ -1,6 +1,7 @@
 -- Bytes that are shown one after the other, and activities that are reported so.
-use Rattle.std.proofs.Common.{◌≡◌, ℕ, suc, ◌+◌, ◌-◌, ◌*◌, ◌%◌, ◌^◌, ◌<◌, ◌≤◌, min, List, [], ◌∷◌, ◌++◌, Some, None, length, take, drop, get_or, flat_map, refl, sym, ap, subst, ◌∙◌, append-nil, arith, length-take, length-take-le, inl, inr}
+use Rattle.std.proofs.Common.{◌≡◌, ℕ, suc, ◌+◌, ◌-◌, ◌*◌, ◌%◌, ◌^◌, ◌<◌, ◌≤◌, min, max, List, [], ◌∷◌, ◌++◌, Some, None, length, take, drop, get_or, flat_map, refl, sym, ap, subst, ◌∙◌, append-nil, arith, length-take, length-take-le, inl, inr}
 use Rattle.std.specs.Prelude.{slice_get}
+use Rattle.std.proofs.lemmas.Bool.{cases_lt}
 use Rattle.std.proofs.lemmas.Grind.{flat_map-append}
 use Rattle.std.proofs.lemmas.List.{drop_all, drop-append-le, take_more, take_all}
 use Rattle.std.proofs.lemmas.Option.{get_or_from_slice_get, slice_get_cases}
@@ -66,3 +67,13 @@ lost-behind xs n e = elim (slice_get_cases xs n).1 [
 
 pub reported-same : {A : Type 0} (line : A → List ℕ) (o p : Out) (first n : ℕ) (xs : List A) → length xs ≤ n → Puts o (flat_map line (drop first (take n xs))) p → Puts o (flat_map line (drop first (take (n + 1) xs))) p
 reported-same line o p first n xs past h = subst (λ ys. Puts o (flat_map line (drop first ys)) p) (take_all n xs past ∙ sym (take_all (n + 1) xs (omega arith))) h
+
+-- the last item of some
+pub reported-last : {A : Type 0} (line : A → List ℕ) (o p : Out) (first n end : ℕ) (xs : List A) → end ≤ n → first ≤ n → n ≤ max first end → Puts o (flat_map line (drop first (take n xs))) p → Puts o (flat_map line (drop first (take end xs))) p
+reported-last line o p first n end xs past after within h = subst (λ ys. Puts o (flat_map line ys) p) (elim (cases_lt first end) [
+  | inl less ↦ let same : n ≡ end = omega (arith, less) in ap (λ k. drop first (take k xs)) same
+  | inr behind ↦
+      let one : drop first (take n xs) ≡ [] = drop_all first (take n xs) (omega (arith, length-take n xs, behind)) in
+      let other : drop first (take end xs) ≡ [] = drop_all first (take end xs) (omega (arith, length-take end xs, behind)) in
+      one ∙ sym other
+]) h

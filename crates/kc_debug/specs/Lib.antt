@@ -3,6 +3,8 @@ pub mod Faults
 pub mod Stops
 pub mod Lines
 pub mod Transcript
+pub mod InLives
+pub mod Debugging
 pub mod Passing
 pub mod Sitting
 pub mod Stands

@@ -23,8 +23,8 @@ use std::sync::ledger::Ledger;
 /// The most states of an activity.
 const ACTIVITY_LIMIT: u64 = 255;
 
-// Goes on to the end of the present activity, or of the next one.
-fn pass_activity<X: Extra + Drop, S: Sink, L: Ledger>(
+/// Goes on to the end of the present activity, or of the next one.
+pub(crate) fn pass_activity<X: Extra + Drop, S: Sink, L: Ledger>(
     begun: &mut HeapCircularBuffer<Begun>,
     machine: &mut Machine<X>,
     out: &mut TraceOut<S>,
@@ -46,8 +46,8 @@ fn pass_activity<X: Extra + Drop, S: Sink, L: Ledger>(
     }
 }
 
-// Goes on by one state.
-fn pass_state<X: Extra + Drop, S: Sink, L: Ledger>(
+/// Goes on by one state.
+pub(crate) fn pass_state<X: Extra + Drop, S: Sink, L: Ledger>(
     begun: &mut HeapCircularBuffer<Begun>,
     machine: &mut Machine<X>,
     out: &mut TraceOut<S>,
@@ -166,8 +166,8 @@ fn is_break(breaks: &[u16], addr: u16) -> bool
     breaks.iter().any(|b| *b == addr)
 }
 
-// Whether an activity would start at a breakpoint.
-fn is_at_break<X: Extra + Drop>(breaks: &[u16], machine: &Machine<X>) -> bool
+/// Whether an activity would start at a breakpoint.
+pub(crate) fn is_at_break<X: Extra + Drop>(breaks: &[u16], machine: &Machine<X>) -> bool
     ensures { result ≡ stands_at_break breaks.now machine.now.machine }
 {
     if machine.between() {
@@ -223,8 +223,8 @@ fn idle_end<X: Extra + Drop>(breaks: &[u16], until: StateTime, machine: &Machine
     }
 }
 
-// Goes on to the end of an activity, or over idle states, or by one state where the state `until` is near.
-fn pass<X: Extra + Drop, S: Sink, L: Ledger>(
+/// Goes on to the end of an activity, or over idle states, or by one state where the state `until` is near.
+pub(crate) fn pass<X: Extra + Drop, S: Sink, L: Ledger>(
     begun: &mut HeapCircularBuffer<Begun>,
     breaks: &[u16],
     until: StateTime,

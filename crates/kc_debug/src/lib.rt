@@ -1,14 +1,19 @@
 //! The debugger: a script of commands that is carried out over a machine, and what is printed of it. It stands on
 //! `kc_machine` and `kc_debug_script`. Example: `s 2` passes two activities and prints where the board stands then, as `T 145
-//! 2098`.
+//! 2098`; over lives it gives the number of the life too, as `T 145 2098 1`.
 #![tactic(auto)]
 
 mod activities;
 mod carrying;
+mod in_lives;
+mod life;
 mod lines;
+mod living;
+mod past;
 mod session;
 mod showing;
 
+pub use in_lives::{Lives, debug_lives};
 pub use kc_debug_script::{DebugFault, LineMap, Script};
 pub use kc_machine::End;
 pub use session::Session;

@@ -1,6 +1,7 @@
 // The lines of a debugger, each made in place, with no memory.
 ghost use Rattle.std.specs.Prelude.{◌≡◌, ◌+◌, ◌≤◌, ◌<◌, ◌++◌, ◌∷◌, [], decimal, codes};
 ghost use Rattle.arrayvec.specs.ArrayVec.{array_vec_len};
+ghost use Rattle.kc_debug.specs.InLives.{stand_line as line_of_stand_in_life};
 ghost use Rattle.kc_debug.specs.Lines.{memory_line as line_of_memory, shown_bytes, stand_line as line_of_stand, state_fields};
 
 use crate::activities::Begun;
@@ -33,11 +34,35 @@ pub(crate) fn stand_line<X: Extra + Drop>(machine: &Machine<X>) -> LineBytes
 
 /// The line of an activity, without its source line and its end.
 pub(crate) fn activity_fields(begun: &Begun) -> LineBytes
-    ensures { result.items ≡ codes "A " ++ state_fields begun.now.at begun.now.pc }
+    ensures fields { result.items ≡ codes "A " ++ state_fields begun.now.at begun.now.pc }
+    ensures short { array_vec_len result ≤ 30 }
 {
     let mut line = ArrayVec::new();
     put_text(&mut line, b"A ");
     put_state(&mut line, begun.at, begun.pc);
+    line
+}
+
+/// The line of where a machine stands in the life of this number.
+pub(crate) fn stand_line_in_life<X: Extra + Drop>(machine: &Machine<X>, life: u16) -> LineBytes
+    ensures { result.items ≡ line_of_stand_in_life life machine.now.machine }
+{
+    let mut line = ArrayVec::new();
+    put_text(&mut line, b"T ");
+    put_state(&mut line, machine.now(), machine.pc());
+    put_text(&mut line, b" ");
+    put_decimal(&mut line, u64::from(life));
+    line.push(b'\n');
+    line
+}
+
+/// The line of an activity in the life of this number, without its source line and its end.
+pub(crate) fn activity_fields_in_life(begun: &Begun, life: u16) -> LineBytes
+    ensures { result.items ≡ codes "A " ++ state_fields begun.now.at begun.now.pc ++ codes " " ++ decimal life }
+{
+    let mut line = activity_fields(begun);
+    put_text(&mut line, b" ");
+    put_decimal(&mut line, u64::from(life));
     line
 }
 

@@ -53,20 +53,20 @@ impl Model for Session {
     ghost invariant = { λ s. s.sitting.begun.capacity ≡ 33 };
 }
 
-fn first_begun(alloc: Global) -> Result<HeapCircularBuffer<Begun>, NoMemory>
+pub(crate) fn first_begun(alloc: Global) -> Result<HeapCircularBuffer<Begun>, NoMemory>
     ensures { IfOk result (λ begun. begun ≡ buffer [] 33) }
 {
     let begun = HeapCircularBuffer::with_capacity(alloc, KEPT)?;
     Ok(begun)
 }
 
-fn is_quit(command: Command) -> bool
+pub(crate) fn is_quit(command: Command) -> bool
     ensures { result ≡ quits command }
 {
     matches!(command, Command::Quit)
 }
 
-fn command_at(commands: &[Command], index: usize) -> Command
+pub(crate) fn command_at(commands: &[Command], index: usize) -> Command
     requires within { index < length commands.now }
     requires bounded { AreBounded commands.now }
     ensures here { drop index commands.now ≡ result ∷ drop (index + 1) commands.now }

@@ -21,7 +21,7 @@ use kc_machine::{End, Machine, WriteFault};
 use kc_trace::TraceOut;
 
 /// How many activities are reported.
-const REPORTED: usize = 32;
+pub(crate) const REPORTED: usize = 32;
 
 // Reports the end, where the machine lived before.
 fn report_end<X: Extra + Drop, S: Sink>(
@@ -80,8 +80,8 @@ pub(crate) fn show<X: Extra + Drop, S: Sink>(
     out.written()
 }
 
-// Reports the source line of an address, where there is one.
-fn report_place<S: Sink>(lines: &LineMap, addr: u16, out: &mut TraceOut<S>)
+/// Reports the source line of an address, where there is one.
+pub(crate) fn report_place<S: Sink>(lines: &LineMap, addr: u16, out: &mut TraceOut<S>)
     ensures { Puts (out_of S.written S.faults out.old) (source_place (entry_at lines.now addr)) (out_of S.written S.faults out.new) }
 {
     match lines.find(addr) {

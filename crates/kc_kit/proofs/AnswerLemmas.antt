@@ -49,7 +49,7 @@ use Rattle.kc_kit_words.specs.declared.extent.Extent.{Extent}
 use Rattle.kc_kit_words.specs.declared.inputs.Role.{Role}
 use Rattle.kc_kit_words.specs.declared.inputs.Role.TheVariants as role
 use Rattle.kc_lib.specs.Taking.{AreTaken}
-use Rattle.kc_kit_words.specs.Commands.{Beside, Command, Helps, HelpsOn, ReportsVersion, Runs, Profiles, Assembles, Packs, Links, RunsHex, ProfilesHex, Lists, Debugs, Generates, Dumps, Checks, Explains, names_of, names_read, names_written, names_beside, names_whole}
+use Rattle.kc_kit_words.specs.Commands.{Behind, Beside, Command, Helps, HelpsOn, ReportsVersion, Runs, Profiles, Assembles, Packs, Links, RunsHex, ProfilesHex, Lists, Debugs, Generates, Dumps, Checks, Explains, names_of, names_read, names_written, names_beside, names_behind, names_whole}
 use Rattle.kc_kit_words.specs.Words.{placing_of}
 use Rattle.kc_kit_inputs.specs.declared.driving.Driving.{Driving}
 use Rattle.kc_kit_inputs.specs.Analog.{by_bad_line, values_of}
@@ -70,7 +70,7 @@ use Rattle.kc_kit_inputs.specs.Stimuli as stimulus
 use Rattle.kc_kit_answer.specs.Accepting.{Accepting, IsOneText, AreTwoTexts, reported}
 use Rattle.kc_kit_answer.specs.Answer.{OneText, TwoTexts, Parted, CommandAnswer, MayAnswer, IsAccepted, EndsAccepted, StaysBut}
 use Rattle.kc_kit_answer.specs.Assemble.{AreListings, AssembleAnswer, IsAssemblable}
-use Rattle.kc_kit_running.specs.Scripted.{debugged_by}
+use Rattle.kc_kit_running.specs.Scripted.{debugged_by, debugged_in_lives, debugger_response, end_in}
 use Rattle.kc_kit_answer.specs.Debug.{debug_response, DebugAnswer, IsDebuggable}
 use Rattle.kc_kit_answer.specs.Dump.{Dumped, DumpAnswer, IsDumpable}
 use Rattle.kc_kit_answer.specs.Check.{Checked, CheckAnswer, CheckTexts, TraceThen, AreCheckable, IsTraceHeld, CheckAccepted}
@@ -95,9 +95,10 @@ use Rattle.kc_kit_answer.proofs.HexLengths.{hex-short}
 use Rattle.kc_kit_answer.specs.Pack.{packed, PackAnswer}
 use Rattle.kc_kit_answer.specs.Places.{by_places, places_of, Placing}
 use Rattle.kc_debug_script.specs.declared.line_map.MapEntry.{MapEntry}
-use Rattle.kc_kit_running.specs.Profiled.{profile_response}
-use Rattle.kc_kit_answer.specs.Profile.{map_entry, DrivenWithLines, LinkedWithLines, LinesReported, ProfileAnswer, ProfileHexAnswer}
-use Rattle.kc_kit_answer.specs.Run.{Driven, LinkedReported, SourcesReported, RunAnswer}
+use Rattle.kc_kit_running.specs.Profiled.{Known, none_known, profile_response, run_over, write_of}
+use Rattle.kc_kit_running.specs.Sources.{FileLines, lines_of_files, no_lines}
+use Rattle.kc_kit_answer.specs.Profile.{DrivenWithLines, LinkedWithLines, LinesReported, ProfileAnswer, ProfileHexAnswer}
+use Rattle.kc_kit_answer.specs.Run.{Driven, LinkedReported, RunReported, RunAnswer}
 use Rattle.kc_kit_running.specs.Lives.{board_lives, response_over, board_response}
 use Rattle.kc_kit_running.specs.Running.{status_of, run_of}
 
@@ -190,10 +191,10 @@ reported-end end.Powerdown = refl
 reported-end end.Reset = refl
 reported-end (end.Undefined what access) = refl
 
-sound-run : (ns : List (List ℕ)) (extent : Extent) (driving : Driving) (image : List ℕ) → IsSound ns (board_response extent driving image)
-sound-run ns extent driving image = by extent.lives
+sound-run : (ns : List (List ℕ)) (extent : Extent) (lines : FileLines) (driving : Driving) (image : List ℕ) → IsSound ns (board_response lines extent driving image)
+sound-run ns extent lines driving image = by extent.lives
   where
-    by : (lives : Option ℕ) → IsSound ns (response_over lives extent.states driving image)
+    by : (lives : Option ℕ) → IsSound ns (response_over lines lives extent.states driving image)
     by None = record { reported = reported-end (end_of (run_of extent.states driving image).machine); named = inl refl }
     by (Some most) = record { reported = reported-end (last_end (board_lives most extent.states driving image)); named = inl refl }
 
@@ -253,11 +254,14 @@ sound-reported : {A : Type 0} (ns : List (List ℕ)) (x : Result A Response) (re
 sound-reported ns (Ok a) report f g = g a
 sound-reported ns (Err e) report f g = f e refl
 
-sound-debug : (ns : List (List ℕ)) (script : List ℕ × List ℕ) (lines : Option (List ℕ × List ℕ)) (driving : Driving) (image : List ℕ) → IsSound ns (debug_response script lines driving image)
-sound-debug ns script lines driving image =
+sound-debugger : (ns : List (List ℕ)) (lives : Option ℕ) (entries : List MapEntry) (commands : List Command) (driving : Driving) (image : List ℕ) → IsSound ns (debugger_response lives entries commands driving image)
+sound-debugger ns None entries commands driving image = record { reported = reported-end (end_of (debugged_by entries commands driving image).machine); named = inl refl }
+sound-debugger ns (Some most) entries commands driving image = record { reported = reported-end (end_in (debugged_in_lives most entries commands driving image)); named = inl refl }
+
+sound-debug : (ns : List (List ℕ)) (script : List ℕ × List ℕ) (lines : Option (List ℕ × List ℕ)) (lives : Option ℕ) (driving : Driving) (image : List ℕ) → IsSound ns (debug_response script lines lives driving image)
+sound-debug ns script lines lives driving image =
     sound-reported ns (script_of script.0 script.1) _ (sound-script ns script)
-    (λ commands. sound-reported ns (lines_of lines) _ (sound-source-lines ns lines)
-    (λ entries. record { reported = reported-end (end_of (debugged_by entries commands driving image).machine); named = inl refl }))
+    (λ commands. sound-reported ns (lines_of lines) _ (sound-source-lines ns lines) (λ entries. sound-debugger ns lives entries commands driving image))
 
 sound-fault : (ns : List (List ℕ)) (name text : List ℕ) (r : Response) → ReportsFault AnyDiagnostic name text r → IsSound ns r
 sound-fault ns name text r h = sound-err ns (source_response name h.0 h.1 h.3.0) r refl refl (sym h.3.2)
@@ -268,22 +272,29 @@ sound-first ns (n ∷ names) [] r h = absurd h
 sound-first ns (n ∷ names) (t ∷ texts) r (inl h) = sound-fault ns n t r h
 sound-first ns (n ∷ names) (t ∷ texts) r (inr h) = sound-first ns names texts r h.1
 
-sound-sources : (ns names : List (List ℕ)) (given : GivenFiles) (ranges : Ranges) (texts : List (List ℕ)) (report : Driving → List ℕ → Response) (r : Response) →
-    ((driving : Driving) (image : List ℕ) → IsSound ns (report driving image)) → SourcesReported AnyDiagnostic names given ranges texts report r → IsSound ns r
+sound-sources : (ns names : List (List ℕ)) (given : GivenFiles) (ranges : Ranges) (texts : List (List ℕ)) (report : FileLines → Driving → List ℕ → Response) (r : Response) →
+    ((lines : FileLines) (driving : Driving) (image : List ℕ) → IsSound ns (report lines driving image)) → RunReported AnyDiagnostic names given ranges texts report r → IsSound ns r
 sound-sources ns names given ranges texts report r f (Ok ms, made, h) =
-    then-all (IsSound ns) (places_of names ms ranges) (Driven given (LinkedReported texts) report ms) r (sound-places ns names ms (placed ms ranges))
-    (λ places e k. then-all (IsSound ns) (driving_of given) (λ d. LinkedReported texts (report d) ms places) r (sound-driving ns given) (λ d g l. subst (IsSound ns) (sym l.reported) (f d l.image)) k) h
+    then-all (IsSound ns) (places_of names ms ranges) (λ places. Driven given (LinkedReported texts) (report (lines_of_files names ms places)) ms places) r (sound-places ns names ms (placed ms ranges))
+    (λ places e k. then-all (IsSound ns) (driving_of given) (λ d. LinkedReported texts (report (lines_of_files names ms places) d) ms places) r (sound-driving ns given)
+    (λ d g l. subst (IsSound ns) (sym l.reported) (f (lines_of_files names ms places) d l.image)) k) h
 sound-sources ns names given ranges texts report r f (Err e, reported, h) = subst (IsSound ns) (sym h) (sound-first ns names texts e reported)
 
-sound-profile : (states : ℕ) (out : List ℕ) (entries : List MapEntry) (driving : Driving) (image : List ℕ) → IsSound (out ∷ []) (profile_response states out entries driving image)
-sound-profile states out entries driving image = record { reported = reported-end (end_of (run_of states driving image).machine); named = inr refl }
+names-behind : (p c : Option (List ℕ)) (profile cover : List ℕ) → map (λ (w : Write). w.name) (write_of p profile ++ write_of c cover) ≡ option_to_list p ++ option_to_list c
+names-behind None None profile cover = refl
+names-behind None (Some c) profile cover = refl
+names-behind (Some p) None profile cover = refl
+names-behind (Some p) (Some c) profile cover = refl
 
-sound-lines : (ns names : List (List ℕ)) (given : GivenFiles) (ranges : Ranges) (texts : List (List ℕ)) (report : List MapEntry → Driving → List ℕ → Response) (r : Response) →
-    ((entries : List MapEntry) (driving : Driving) (image : List ℕ) → IsSound ns (report entries driving image)) → LinesReported AnyDiagnostic names given ranges texts report r → IsSound ns r
+sound-profile : (extent : Extent) (behind : Behind) (k : Known) (driving : Driving) (image : List ℕ) → IsSound (names_behind behind) (profile_response extent behind k driving image)
+sound-profile extent behind k driving image = record { reported = reported-end (run_over extent.lives extent.states k driving image).how; named = inr (names-behind behind.profile behind.cover _ _) }
+
+sound-lines : (ns names : List (List ℕ)) (given : GivenFiles) (ranges : Ranges) (texts : List (List ℕ)) (report : Known → Driving → List ℕ → Response) (r : Response) →
+    ((k : Known) (driving : Driving) (image : List ℕ) → IsSound ns (report k driving image)) → LinesReported AnyDiagnostic names given ranges texts report r → IsSound ns r
 sound-lines ns names given ranges texts report r f (Ok ms, made, h) =
-    then-all (IsSound ns) (places_of names ms ranges) (DrivenWithLines given (LinkedWithLines texts) report ms) r (sound-places ns names ms (placed ms ranges))
-    (λ places e k. then-all (IsSound ns) (driving_of given) (λ d. LinkedWithLines texts (λ entries. report entries d) ms places) r (sound-driving ns given)
-    (λ d g l. subst (IsSound ns) (sym l.reported) (f (map map_entry l.entries) d l.image)) k) h
+    then-all (IsSound ns) (places_of names ms ranges) (DrivenWithLines given (LinkedWithLines names texts) report ms) r (sound-places ns names ms (placed ms ranges))
+    (λ places e k. then-all (IsSound ns) (driving_of given) (λ d. LinkedWithLines names texts (λ known. report known d) ms places) r (sound-driving ns given)
+    (λ d g l. subst (IsSound ns) (sym l.reported) (f l.known d l.image)) k) h
 sound-lines ns names given ranges texts report r f (Err e, reported, h) = subst (IsSound ns) (sym h) (sound-first ns names texts e reported)
 
 sound-hex-reported : (ns : List (List ℕ)) (name : List ℕ) (given : GivenFiles) (text : List ℕ) (report : Driving → List ℕ → Response) (r : Response) →
@@ -427,19 +438,19 @@ sound-command ReportsVersion contents r h = subst (IsSound []) (sym h) (sound-sa
 sound-command (Runs files inputs extent placing) contents r h =
     let names = files ++ names_of inputs in
     then-all (IsSound []) (reads_of names contents) (Parted (length files) (RunAnswer AnyDiagnostic files inputs extent placing)) r (sound-reads [] names contents)
-    (λ texts e k. sound-sources [] files (given_for inputs (drop (length files) texts)) placing (take (length files) texts) (board_response extent) r
-    (λ driving image. sound-run [] extent driving image) k) h
-sound-command (Profiles files inputs states placing out) contents r h =
-    let ns = out ∷ [] in
+    (λ texts e k. sound-sources [] files (given_for inputs (drop (length files) texts)) placing (take (length files) texts) (λ lines. board_response lines extent) r
+    (sound-run [] extent) k) h
+sound-command (Profiles files inputs extent placing behind) contents r h =
+    let ns = names_behind behind in
     let names = files ++ names_of inputs in
-    then-all (IsSound ns) (reads_of names contents) (Parted (length files) (ProfileAnswer AnyDiagnostic files inputs states placing out)) r (sound-reads ns names contents)
-    (λ texts e k. sound-lines ns files (given_for inputs (drop (length files) texts)) placing (take (length files) texts) (profile_response states out) r (sound-profile states out) k) h
-sound-command (ProfilesHex file inputs states out) contents r h =
+    then-all (IsSound ns) (reads_of names contents) (Parted (length files) (ProfileAnswer AnyDiagnostic files inputs extent placing behind)) r (sound-reads ns names contents)
+    (λ texts e k. sound-lines ns files (given_for inputs (drop (length files) texts)) placing (take (length files) texts) (profile_response extent behind) r (sound-profile extent behind) k) h
+sound-command (ProfilesHex file inputs extent out) contents r h =
     let ns = out ∷ [] in
     let names = file ∷ names_of inputs in
-    then-all (IsSound ns) (reads_of names contents) (Parted 1 (λ texts more. OneText (λ text. ProfileHexAnswer file inputs states out text more) texts)) r (sound-reads ns names contents)
-    (λ texts e k. sound-one ns (λ text. ProfileHexAnswer file inputs states out text (drop 1 texts)) (take 1 texts) r
-    (λ t l. sound-hex-reported ns file (given_for inputs (drop 1 texts)) t (profile_response states out []) r (sound-profile states out []) l) k) h
+    then-all (IsSound ns) (reads_of names contents) (Parted 1 (λ texts more. OneText (λ text. ProfileHexAnswer file inputs extent out text more) texts)) r (sound-reads ns names contents)
+    (λ texts e k. sound-one ns (λ text. ProfileHexAnswer file inputs extent out text (drop 1 texts)) (take 1 texts) r
+    (λ t l. sound-hex-reported ns file (given_for inputs (drop 1 texts)) t (profile_response extent (record { profile = Some out; cover = None }) none_known) r (sound-profile extent (record { profile = Some out; cover = None }) none_known) l) k) h
 sound-command (Assembles file out list) contents r h =
     let ns = out ∷ option_to_list list in
     then-all (IsSound ns) (reads_of (file ∷ []) contents) (OneText (AssembleAnswer AnyDiagnostic file out list)) r (sound-reads ns (file ∷ []) contents)
@@ -455,18 +466,18 @@ sound-command (RunsHex file inputs extent) contents r h =
     let names = file ∷ names_of inputs in
     then-all (IsSound []) (reads_of names contents) (Parted 1 (λ texts more. OneText (λ text. RunHexAnswer file inputs extent text more) texts)) r (sound-reads [] names contents)
     (λ texts e k. sound-one [] (λ text. RunHexAnswer file inputs extent text (drop 1 texts)) (take 1 texts) r
-    (λ t l. sound-hex-reported [] file (given_for inputs (drop 1 texts)) t (board_response extent) r (λ driving image. sound-run [] extent driving image) l) k) h
+    (λ t l. sound-hex-reported [] file (given_for inputs (drop 1 texts)) t (board_response no_lines extent) r (sound-run [] extent no_lines) l) k) h
 sound-command (Lists file first last) contents r h =
     then-all (IsSound []) (reads_of (file ∷ []) contents) (OneText (ListAnswer file first last)) r (sound-reads [] (file ∷ []) contents)
     (λ texts e k. sound-one [] (ListAnswer file first last) texts r
     (λ t l. then-all (IsSound []) (hex_of file t) (ListingOf first last) r (sound-hex [] file t (image_of t)) (λ image f m. subst (IsSound []) (sym m) (sound-says [] status.Done _ refl)) l) k) h
-sound-command (Debugs file script inputs) contents r h =
+sound-command (Debugs file script inputs lives) contents r h =
     let names = file ∷ script ∷ names_of inputs in
-    then-all (IsSound []) (reads_of names contents) (Parted 2 (λ texts more. TwoTexts (λ text commands. DebugAnswer file script inputs text commands more) texts)) r (sound-reads [] names contents)
-    (λ texts e k. sound-two [] (λ text commands. DebugAnswer file script inputs text commands (drop 2 texts)) (take 2 texts) r
-    (λ t u l. sound-hex-reported [] file (given_for inputs (drop 2 texts)) t (debug_response (script, u) (input_for role.Lines inputs (drop 2 texts))) r
-    (λ driving image. sound-debug [] (script, u) (input_for role.Lines inputs (drop 2 texts)) driving image) l) k) h
-sound-command (Generates number) contents r h = sound-sources [] made_names (made_given number) (placing_of []) (made_texts number) (summary_of number) r (λ driving image. sound-summary [] number driving image) h
+    then-all (IsSound []) (reads_of names contents) (Parted 2 (λ texts more. TwoTexts (λ text commands. DebugAnswer file script inputs lives text commands more) texts)) r (sound-reads [] names contents)
+    (λ texts e k. sound-two [] (λ text commands. DebugAnswer file script inputs lives text commands (drop 2 texts)) (take 2 texts) r
+    (λ t u l. sound-hex-reported [] file (given_for inputs (drop 2 texts)) t (debug_response (script, u) (input_for role.Lines inputs (drop 2 texts)) lives) r
+    (λ driving image. sound-debug [] (script, u) (input_for role.Lines inputs (drop 2 texts)) lives driving image) l) k) h
+sound-command (Generates number) contents r h = sound-sources [] made_names (made_given number) (placing_of []) (made_texts number) (λ lines. summary_of number) r (λ lines. sound-summary [] number) h
 sound-command (Dumps trace inputs out clock) contents r h =
     let names = names_of inputs in
     then-all (IsSound (out ∷ [])) (reads_of names contents) (λ texts. TraceThen trace (λ printed. DumpAnswer trace inputs out clock printed texts) (drop (length names) contents)) r (sound-reads (out ∷ []) names contents)
@@ -659,10 +670,10 @@ done-writing readable others r h e = inl (ap (λ (k : Response). k.status) (e �
 done-reported : (r reported : Response) → r ≡ reported → IsDone reported.status → IsDone r.status
 done-reported r reported e h = subst (λ (k : Response). IsDone k.status) (sym e) h
 
-done-run : (extent : Extent) (driving : Driving) (image : List ℕ) → IsDone (board_response extent driving image).status
-done-run extent driving image = by extent.lives
+done-run : (extent : Extent) (lines : FileLines) (driving : Driving) (image : List ℕ) → IsDone (board_response lines extent driving image).status
+done-run extent lines driving image = by extent.lives
   where
-    by : (lives : Option ℕ) → IsDone (response_over lives extent.states driving image).status
+    by : (lives : Option ℕ) → IsDone (response_over lines lives extent.states driving image).status
     by None = done-end (end_of (run_of extent.states driving image).machine)
     by (Some most) = done-end (last_end (board_lives most extent.states driving image))
 
@@ -675,22 +686,23 @@ none-first (n ∷ names) [] r none h = h
 none-first (n ∷ names) (t ∷ texts) r none (inl h) = no-fault n t r none.0 h
 none-first (n ∷ names) (t ∷ texts) r none (inr h) = none-first names texts r none.1 h.1
 
-done-sources : (names : List (List ℕ)) (given : GivenFiles) (ranges : Ranges) (texts : List (List ℕ)) (report : Driving → List ℕ → Response) (r : Response) → ((driving : Driving) (image : List ℕ) → IsDone (report driving image).status) →
-    AreFaultless texts → ((ms : List Object) → AreModules texts ms → IsOk (places_of names ms ranges)) → IsOk (driving_of given) → SourcesReported AnyDiagnostic names given ranges texts report r → IsDone r.status
+done-sources : (names : List (List ℕ)) (given : GivenFiles) (ranges : Ranges) (texts : List (List ℕ)) (report : FileLines → Driving → List ℕ → Response) (r : Response) → ((lines : FileLines) (driving : Driving) (image : List ℕ) → IsDone (report lines driving image).status) →
+    AreFaultless texts → ((ms : List Object) → AreModules texts ms → IsOk (places_of names ms ranges)) → IsOk (driving_of given) → RunReported AnyDiagnostic names given ranges texts report r → IsDone r.status
 done-sources names given ranges texts report r f a b c (Ok ms, made, h) =
-    done-then (places_of names ms ranges) (Driven given (LinkedReported texts) report ms) r
-    (λ places k. done-then (driving_of given) (λ d. LinkedReported texts (report d) ms places) r (λ d l. done-reported r (report d l.image) l.reported (f d l.image)) c k) (b ms made) h
+    done-then (places_of names ms ranges) (λ places. Driven given (LinkedReported texts) (report (lines_of_files names ms places)) ms places) r
+    (λ places k. done-then (driving_of given) (λ d. LinkedReported texts (report (lines_of_files names ms places) d) ms places) r
+    (λ d l. done-reported r (report (lines_of_files names ms places) d l.image) l.reported (f (lines_of_files names ms places) d l.image)) c k) (b ms made) h
 done-sources names given ranges texts report r f a b c (Err e, reported, h) = absurd (none-first names texts e a reported)
 
-done-profile : (states : ℕ) (out : List ℕ) (entries : List MapEntry) (driving : Driving) (image : List ℕ) → IsDone (profile_response states out entries driving image).status
-done-profile states out entries driving image = done-end (end_of (run_of states driving image).machine)
+done-profile : (extent : Extent) (behind : Behind) (k : Known) (driving : Driving) (image : List ℕ) → IsDone (profile_response extent behind k driving image).status
+done-profile extent behind k driving image = done-end (run_over extent.lives extent.states k driving image).how
 
-done-lines : (names : List (List ℕ)) (given : GivenFiles) (ranges : Ranges) (texts : List (List ℕ)) (report : List MapEntry → Driving → List ℕ → Response) (r : Response) → ((entries : List MapEntry) (driving : Driving) (image : List ℕ) → IsDone (report entries driving image).status) →
+done-lines : (names : List (List ℕ)) (given : GivenFiles) (ranges : Ranges) (texts : List (List ℕ)) (report : Known → Driving → List ℕ → Response) (r : Response) → ((k : Known) (driving : Driving) (image : List ℕ) → IsDone (report k driving image).status) →
     AreFaultless texts → ((ms : List Object) → AreModules texts ms → IsOk (places_of names ms ranges)) → IsOk (driving_of given) → LinesReported AnyDiagnostic names given ranges texts report r → IsDone r.status
 done-lines names given ranges texts report r f a b c (Ok ms, made, h) =
-    done-then (places_of names ms ranges) (DrivenWithLines given (LinkedWithLines texts) report ms) r
-    (λ places k. done-then (driving_of given) (λ d. LinkedWithLines texts (λ entries. report entries d) ms places) r
-    (λ d l. done-reported r (report (map map_entry l.entries) d l.image) l.reported (f (map map_entry l.entries) d l.image)) c k) (b ms made) h
+    done-then (places_of names ms ranges) (DrivenWithLines given (LinkedWithLines names texts) report ms) r
+    (λ places k. done-then (driving_of given) (λ d. LinkedWithLines names texts (λ known. report known d) ms places) r
+    (λ d l. done-reported r (report l.known d l.image) l.reported (f l.known d l.image)) c k) (b ms made) h
 done-lines names given ranges texts report r f a b c (Err e, reported, h) = absurd (none-first names texts e a reported)
 
 done-object : (name out : List ℕ) (list : Option (List ℕ)) (text : List ℕ) (r : Response) → IsAssemblable text → AssembleAnswer AnyDiagnostic name out list text r → IsDone r.status
@@ -723,15 +735,19 @@ done-step : {A : Type 0} (x : Result A Response) (report : A → Response) → I
 done-step (Ok a) report ok f = f a
 done-step (Err e) report ok f = absurd (let k : false ≡ true = ok in cc)
 
-done-debug : (file script : List ℕ) (inputs : List (Role × List ℕ)) (text commands : List ℕ) (texts : List (List ℕ)) (r : Response) →
-    IsDebuggable script inputs text commands texts → DebugAnswer file script inputs text commands texts r → IsDone r.status
-done-debug file script inputs text commands texts r a h =
+done-debugger : (lives : Option ℕ) (entries : List MapEntry) (commands : List Command) (driving : Driving) (image : List ℕ) → IsDone (debugger_response lives entries commands driving image).status
+done-debugger None entries commands driving image = done-end (end_of (debugged_by entries commands driving image).machine)
+done-debugger (Some most) entries commands driving image = done-end (end_in (debugged_in_lives most entries commands driving image))
+
+done-debug : (file script : List ℕ) (inputs : List (Role × List ℕ)) (lives : Option ℕ) (text commands : List ℕ) (texts : List (List ℕ)) (r : Response) →
+    IsDebuggable script inputs text commands texts → DebugAnswer file script inputs lives text commands texts r → IsDone r.status
+done-debug file script inputs lives text commands texts r a h =
     let given = given_for inputs texts in
     let lines = input_for role.Lines inputs texts in
-    done-hex file text (λ image. Then (driving_of given) (λ driving response. response ≡ debug_response (script, commands) lines driving image)) (image_of text) r
-    (λ image k. done-then (driving_of given) (λ driving response. response ≡ debug_response (script, commands) lines driving image) r
-    (λ d m. done-reported r (debug_response (script, commands) lines d image) m
-    (done-step (script_of script commands) _ a.script_read (λ cs. done-step (lines_of lines) _ a.lines (λ entries. done-end (end_of (debugged_by entries cs d image).machine))))) a.driving k) a.image h
+    done-hex file text (λ image. Then (driving_of given) (λ driving response. response ≡ debug_response (script, commands) lines lives driving image)) (image_of text) r
+    (λ image k. done-then (driving_of given) (λ driving response. response ≡ debug_response (script, commands) lines lives driving image) r
+    (λ d m. done-reported r (debug_response (script, commands) lines lives d image) m
+    (done-step (script_of script commands) _ a.script_read (λ cs. done-step (lines_of lines) _ a.lines (λ entries. done-debugger lives entries cs d image)))) a.driving k) a.image h
 
 -- the hex file and the line map
 readable-files : (out : List ℕ) (lines : Option (List ℕ)) (ms : List Object) (places : Places) (image : List ℕ) (more : List Write) → IsReadableMap lines ms places → IsMap lines ms places more →
@@ -835,16 +851,16 @@ done-command (Some (HelpsOn verb)) contents r a h = inl (ap (λ (k : Response). 
 done-command (Some ReportsVersion) contents r a h = inl (ap (λ (k : Response). k.status) h)
 done-command (Some (Runs files inputs extent placing)) contents r a h =
     accepted-then _ (Parted (length files) (RunAnswer AnyDiagnostic files inputs extent placing)) (reads_of (files ++ names_of inputs) contents) r
-    (λ texts b k. done-sources files (given_for inputs (drop (length files) texts)) placing (take (length files) texts) (board_response extent) r
-    (λ driving image. done-run extent driving image) b.0 b.1 b.2 k) a h
-done-command (Some (Profiles files inputs states placing out)) contents r a h =
-    accepted-then _ (Parted (length files) (ProfileAnswer AnyDiagnostic files inputs states placing out)) (reads_of (files ++ names_of inputs) contents) r
-    (λ texts b k. done-lines files (given_for inputs (drop (length files) texts)) placing (take (length files) texts) (profile_response states out) r (done-profile states out) b.0 b.1 b.2 k) a h
-done-command (Some (ProfilesHex file inputs states out)) contents r a h =
-    accepted-then _ (Parted 1 (λ texts more. OneText (λ text. ProfileHexAnswer file inputs states out text more) texts)) (reads_of (file ∷ names_of inputs) contents) r
-    (λ texts b k. done-one file (λ image. Then (driving_of (given_for inputs (drop 1 texts))) (λ driving response. response ≡ profile_response states out [] driving image)) (take 1 texts) r
-    (λ image l. done-then (driving_of (given_for inputs (drop 1 texts))) (λ driving response. response ≡ profile_response states out [] driving image) r
-    (λ d m. done-reported r (profile_response states out [] d image) m (done-profile states out [] d image)) b.1 l) b.0 k) a h
+    (λ texts b k. done-sources files (given_for inputs (drop (length files) texts)) placing (take (length files) texts) (λ lines. board_response lines extent) r
+    (done-run extent) b.0 b.1 b.2 k) a h
+done-command (Some (Profiles files inputs extent placing behind)) contents r a h =
+    accepted-then _ (Parted (length files) (ProfileAnswer AnyDiagnostic files inputs extent placing behind)) (reads_of (files ++ names_of inputs) contents) r
+    (λ texts b k. done-lines files (given_for inputs (drop (length files) texts)) placing (take (length files) texts) (profile_response extent behind) r (done-profile extent behind) b.0 b.1 b.2 k) a h
+done-command (Some (ProfilesHex file inputs extent out)) contents r a h =
+    accepted-then _ (Parted 1 (λ texts more. OneText (λ text. ProfileHexAnswer file inputs extent out text more) texts)) (reads_of (file ∷ names_of inputs) contents) r
+    (λ texts b k. done-one file (λ image. Then (driving_of (given_for inputs (drop 1 texts))) (λ driving response. response ≡ profile_response extent (record { profile = Some out; cover = None }) none_known driving image)) (take 1 texts) r
+    (λ image l. done-then (driving_of (given_for inputs (drop 1 texts))) (λ driving response. response ≡ profile_response extent (record { profile = Some out; cover = None }) none_known driving image) r
+    (λ d m. done-reported r (profile_response extent (record { profile = Some out; cover = None }) none_known d image) m (done-profile extent (record { profile = Some out; cover = None }) none_known d image)) b.1 l) b.0 k) a h
 done-command (Some (Assembles file out list)) contents r a h =
     accepted-then _ (OneText (AssembleAnswer AnyDiagnostic file out list)) (reads_of (file ∷ []) contents) r (λ texts b k. done-objects file out list texts r b k) a h
 done-command (Some (Packs files out)) contents r a h =
@@ -856,19 +872,19 @@ done-command (Some (Links files inputs out beside placing)) contents r a h =
     (λ ms c l. done-completed files (input_for role.Library inputs (drop (length files) texts)) out beside placing ms r c l) b k) a h
 done-command (Some (RunsHex file inputs extent)) contents r a h =
     accepted-then _ (Parted 1 (λ texts more. OneText (λ text. RunHexAnswer file inputs extent text more) texts)) (reads_of (file ∷ names_of inputs) contents) r
-    (λ texts b k. done-one file (λ image. Then (driving_of (given_for inputs (drop 1 texts))) (λ driving response. response ≡ board_response extent driving image)) (take 1 texts) r
-    (λ image l. done-then (driving_of (given_for inputs (drop 1 texts))) (λ driving response. response ≡ board_response extent driving image) r
-    (λ d m. done-reported r (board_response extent d image) m (done-run extent d image)) b.1 l) b.0 k) a h
+    (λ texts b k. done-one file (λ image. Then (driving_of (given_for inputs (drop 1 texts))) (λ driving response. response ≡ board_response no_lines extent driving image)) (take 1 texts) r
+    (λ image l. done-then (driving_of (given_for inputs (drop 1 texts))) (λ driving response. response ≡ board_response no_lines extent driving image) r
+    (λ d m. done-reported r (board_response no_lines extent d image) m (done-run extent no_lines d image)) b.1 l) b.0 k) a h
 done-command (Some (Lists file first last)) contents r a h =
     accepted-then _ (OneText (ListAnswer file first last)) (reads_of (file ∷ []) contents) r
     (λ texts b k. done-one file (ListingOf first last) texts r (λ image l. inl (ap (λ (k : Response). k.status) l)) b k) a h
-done-command (Some (Debugs file script inputs)) contents r a h =
-    accepted-then _ (Parted 2 (λ texts more. TwoTexts (λ text commands. DebugAnswer file script inputs text commands more) texts)) (reads_of (file ∷ script ∷ names_of inputs) contents) r
-    (λ texts b k. done-two (λ text commands. IsDebuggable script inputs text commands (drop 2 texts)) (λ text commands. DebugAnswer file script inputs text commands (drop 2 texts)) (take 2 texts) r
-    (λ t u c l. done-debug file script inputs t u (drop 2 texts) r c l) b k) a h
+done-command (Some (Debugs file script inputs lives)) contents r a h =
+    accepted-then _ (Parted 2 (λ texts more. TwoTexts (λ text commands. DebugAnswer file script inputs lives text commands more) texts)) (reads_of (file ∷ script ∷ names_of inputs) contents) r
+    (λ texts b k. done-two (λ text commands. IsDebuggable script inputs text commands (drop 2 texts)) (λ text commands. DebugAnswer file script inputs lives text commands (drop 2 texts)) (take 2 texts) r
+    (λ t u c l. done-debug file script inputs lives t u (drop 2 texts) r c l) b k) a h
 done-command (Some (Generates number)) contents r a h =
-    done-sources made_names (made_given number) (placing_of []) (made_texts number) (summary_of number) r
-    (λ driving image. done-end (end_of (run_of 1000000 driving image).machine)) a.sources a.modules a.driving h
+    done-sources made_names (made_given number) (placing_of []) (made_texts number) (λ lines. summary_of number) r
+    (λ lines driving image. done-end (end_of (run_of 1000000 driving image).machine)) a.sources a.modules a.driving h
 done-command (Some (Dumps trace inputs out clock)) contents r a h =
     let names = names_of inputs in
     let held = drop (length names) contents in

@@ -3,7 +3,6 @@ use Rattle.std.proofs.Common.{inl, inr, ℕ, List, [], ◌∷◌, ◌++◌, leng
 use Rattle.kc_base.specs.Held.{Holding}
 use Rattle.kc_obj_module.specs.Object.{Object}
 use Rattle.kc_link_place.specs.declared.ranges.Ranges.{Ranges}
-use Rattle.kc_debug_script.specs.declared.line_map.MapEntry.{MapEntry}
 use Rattle.kc_kit_files.specs.Response.{Response}
 use Rattle.kc_kit_files.specs.Reads.{reads_of}
 use Rattle.kc_kit_words.specs.Commands.{Command, Helps, HelpsOn, ReportsVersion, Runs, Profiles, Assembles, Packs, Links, RunsHex, ProfilesHex, Lists, Debugs, Generates, Dumps, Checks, Explains, names_of}
@@ -13,10 +12,12 @@ use Rattle.kc_kit_inputs.specs.Driving.{GivenFiles}
 use Rattle.kc_kit_inputs.specs.Sources.{DiagnosticRule, AnyDiagnostic, ReportsFault, SourceIs, ReportsFirst, SourcesAre}
 use Rattle.kc_kit_answer.specs.Answer.{OneText, Parted, CommandAnswer, MayAnswer}
 use Rattle.kc_kit_running.specs.Counted.{summary_of}
+use Rattle.kc_kit_running.specs.Profiled.{Known}
+use Rattle.kc_kit_running.specs.Sources.{FileLines}
 use Rattle.kc_kit_answer.specs.Assemble.{AssembleAnswer}
 use Rattle.kc_kit_answer.specs.Generate.{made_names, made_texts, made_given}
 use Rattle.kc_kit_answer.specs.Profile.{LinesReported, ProfileAnswer}
-use Rattle.kc_kit_answer.specs.Run.{SourcesReported, RunAnswer}
+use Rattle.kc_kit_answer.specs.Run.{RunReported, RunAnswer}
 use Rattle.kc_kit_answer.proofs.AnswerSteps.{then-map}
 
 module _ (IsDiagnostic : DiagnosticRule) where
@@ -37,11 +38,11 @@ module _ (IsDiagnostic : DiagnosticRule) where
   sources-any names texts (Ok ms) h = h
   sources-any names texts (Err r) h = first-any names texts r h
 
-  reported-any : (names : List (List ℕ)) (given : GivenFiles) (ranges : Ranges) (texts : List (List ℕ)) (report : Driving → List ℕ → Response) (r : Response) →
-      SourcesReported IsDiagnostic names given ranges texts report r → SourcesReported AnyDiagnostic names given ranges texts report r
+  reported-any : (names : List (List ℕ)) (given : GivenFiles) (ranges : Ranges) (texts : List (List ℕ)) (report : FileLines → Driving → List ℕ → Response) (r : Response) →
+      RunReported IsDiagnostic names given ranges texts report r → RunReported AnyDiagnostic names given ranges texts report r
   reported-any names given ranges texts report r (x, h, k) = (x, sources-any names texts x h, k)
 
-  lines-any : (names : List (List ℕ)) (given : GivenFiles) (ranges : Ranges) (texts : List (List ℕ)) (report : List MapEntry → Driving → List ℕ → Response) (r : Response) →
+  lines-any : (names : List (List ℕ)) (given : GivenFiles) (ranges : Ranges) (texts : List (List ℕ)) (report : Known → Driving → List ℕ → Response) (r : Response) →
       LinesReported IsDiagnostic names given ranges texts report r → LinesReported AnyDiagnostic names given ranges texts report r
   lines-any names given ranges texts report r (x, h, k) = (x, sources-any names texts x h, k)
 
@@ -58,18 +59,18 @@ module _ (IsDiagnostic : DiagnosticRule) where
   command-any (Some (Runs files inputs extent placing)) contents r h =
       then-map (reads_of (files ++ names_of inputs) contents) (Parted (length files) (RunAnswer IsDiagnostic files inputs extent placing)) (Parted (length files) (RunAnswer AnyDiagnostic files inputs extent placing)) r
       (λ texts k. reported-any files _ placing (take (length files) texts) _ r k) h
-  command-any (Some (Profiles files inputs states placing out)) contents r h =
-      then-map (reads_of (files ++ names_of inputs) contents) (Parted (length files) (ProfileAnswer IsDiagnostic files inputs states placing out)) (Parted (length files) (ProfileAnswer AnyDiagnostic files inputs states placing out)) r
+  command-any (Some (Profiles files inputs extent placing behind)) contents r h =
+      then-map (reads_of (files ++ names_of inputs) contents) (Parted (length files) (ProfileAnswer IsDiagnostic files inputs extent placing behind)) (Parted (length files) (ProfileAnswer AnyDiagnostic files inputs extent placing behind)) r
       (λ texts k. lines-any files _ placing (take (length files) texts) _ r k) h
-  command-any (Some (ProfilesHex file inputs states out)) contents r h = h
+  command-any (Some (ProfilesHex file inputs extent out)) contents r h = h
   command-any (Some (Assembles file out list)) contents r h =
       then-map (reads_of (file ∷ []) contents) (OneText (AssembleAnswer IsDiagnostic file out list)) (OneText (AssembleAnswer AnyDiagnostic file out list)) r (λ texts k. object-any file out list texts r k) h
   command-any (Some (Packs files out)) contents r h = h
   command-any (Some (Links files inputs out beside placing)) contents r h = h
   command-any (Some (RunsHex file inputs extent)) contents r h = h
   command-any (Some (Lists file first last)) contents r h = h
-  command-any (Some (Debugs file script inputs)) contents r h = h
-  command-any (Some (Generates number)) contents r h = reported-any made_names (made_given number) (placing_of []) (made_texts number) (summary_of number) r h
+  command-any (Some (Debugs file script inputs lives)) contents r h = h
+  command-any (Some (Generates number)) contents r h = reported-any made_names (made_given number) (placing_of []) (made_texts number) (λ lines. summary_of number) r h
   command-any (Some (Dumps trace inputs out clock)) contents r h = h
   command-any (Some (Checks trace rules inputs clock)) contents r h = h
   command-any (Some (Explains code)) contents r h = h

@@ -24,7 +24,9 @@ use Rattle.kc_kit_answer.specs.Link.{Taking, Completed}
 use Rattle.kc_kit_answer.specs.Answer.{OneText, Parted, MayAnswer, MayAnswerBy}
 use Rattle.kc_kit_inputs.specs.declared.driving.Driving.{Driving}
 use Rattle.kc_kit_running.specs.declared.board.Board.{Board}
-use Rattle.kc_kit_answer.specs.Jobs.{IsBoard, does, IsPrepared, Prepares, IsReady, IsOf}
+use Rattle.kc_kit_running.specs.declared.sources.Sources.{Sources}
+use Rattle.kc_kit_running.specs.Sources.{FileLines, lines_in}
+use Rattle.kc_kit_answer.specs.Jobs.{IsBoard, IsBoardOfSources, does, IsPrepared, Prepares, IsReady, IsOf}
 
 -- ---- steps
 
@@ -59,6 +61,11 @@ then-map (Err e) may wide r f h = h
 pub board-widen : (answer wide : (Driving → List ℕ → Response) → Response → Type 0) (b : Result Board Refusal) → ((report : Driving → List ℕ → Response) (r : Response) → answer report r → wide report r) → IsBoard answer b → IsBoard wide b
 board-widen answer wide (Ok board) f h = λ report. f report (report board.driving board.image) (h report)
 board-widen answer wide (Err refusal) f h = λ report. refused-widen (answer report) (wide report) refusal (f report) (h report)
+
+pub sources-widen : (answer wide : (FileLines → Driving → List ℕ → Response) → Response → Type 0) (b : Result (Board × Sources) Refusal) → ((report : FileLines → Driving → List ℕ → Response) (r : Response) → answer report r → wide report r) →
+    IsBoardOfSources answer b → IsBoardOfSources wide b
+sources-widen answer wide (Ok made) f h = (h.0, λ report. f report (report (lines_in (Some made.1)) made.0.driving made.0.image) (h.1 report))
+sources-widen answer wide (Err refusal) f h = λ report. refused-widen (answer report) (wide report) refusal (f report) (h report)
 
 pub prepared-widen : (may wide : Response → Type 0) (p : Result Job Refusal) → ((r : Response) → may r → wide r) → IsPrepared may p → IsPrepared wide p
 prepared-widen may wide (Ok job) f h = (f (does job) h.0, h.1)

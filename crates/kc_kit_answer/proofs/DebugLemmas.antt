@@ -12,7 +12,7 @@ use Rattle.kc_kit_inputs.specs.declared.driving.Driving.{Driving}
 use Rattle.kc_kit_inputs.specs.Driving.{GivenFiles}
 use Rattle.kc_kit_inputs.specs.Scripts.{script_of, lines_of}
 use Rattle.kc_kit_answer.specs.Accepting.{reported}
-use Rattle.kc_kit_running.specs.Scripted.{debugged_by, script_response}
+use Rattle.kc_kit_running.specs.Scripted.{debugger_response}
 use Rattle.kc_kit_answer.specs.Debug.{debug_response}
 use Rattle.kc_kit_answer.specs.Hex.{HexReported}
 
@@ -44,27 +44,27 @@ reported-ok x a report e = ap (λ y. reported y report) e
 reported-err : {A : Type 0} (x : Result A Response) (report : A → Response) (r : Response) → x ≡ Err r → reported x report ≡ r
 reported-err x report r e = ap (λ y. reported y report) e
 
-pub script-refused : (name text : List ℕ) (given : GivenFiles) (script : List ℕ × List ℕ) (lines : Option (List ℕ × List ℕ)) (driving : Driving) (image : List ℕ) (refusal : Refusal) →
-    IsGivenBoard name given text driving image → IsRefused (λ response. script_of script.0 script.1 ≡ Err response) refusal → IsRefused (HexReported name given text (debug_response script lines)) refusal
-script-refused name text given script lines driving image refusal board h =
-    refused-widen (λ response. script_of script.0 script.1 ≡ Err response) (HexReported name given text (debug_response script lines)) refusal
-    (λ r e. subst (HexReported name given text (debug_response script lines))
-    (reported-err (script_of script.0 script.1) (λ commands. reported (lines_of lines) (λ entries. script_response (debugged_by entries commands driving image))) r e) (board (debug_response script lines))) h
+pub script-refused : (name text : List ℕ) (given : GivenFiles) (script : List ℕ × List ℕ) (lines : Option (List ℕ × List ℕ)) (lives : Option ℕ) (driving : Driving) (image : List ℕ) (refusal : Refusal) →
+    IsGivenBoard name given text driving image → IsRefused (λ response. script_of script.0 script.1 ≡ Err response) refusal → IsRefused (HexReported name given text (debug_response script lines lives)) refusal
+script-refused name text given script lines lives driving image refusal board h =
+    refused-widen (λ response. script_of script.0 script.1 ≡ Err response) (HexReported name given text (debug_response script lines lives)) refusal
+    (λ r e. subst (HexReported name given text (debug_response script lines lives))
+    (reported-err (script_of script.0 script.1) (λ commands. reported (lines_of lines) (λ entries. debugger_response lives entries commands driving image)) r e) (board (debug_response script lines lives))) h
 
 -- what is reported with the commands of the script
-with-commands : (script : List ℕ × List ℕ) (lines : Option (List ℕ × List ℕ)) (driving : Driving) (image : List ℕ) (commands : List Command) → script_of script.0 script.1 ≡ Ok commands →
-    debug_response script lines driving image ≡ reported (lines_of lines) (λ entries. script_response (debugged_by entries commands driving image))
-with-commands script lines driving image commands e = reported-ok (script_of script.0 script.1) commands (λ commands. reported (lines_of lines) (λ entries. script_response (debugged_by entries commands driving image))) e
+with-commands : (script : List ℕ × List ℕ) (lines : Option (List ℕ × List ℕ)) (lives : Option ℕ) (driving : Driving) (image : List ℕ) (commands : List Command) → script_of script.0 script.1 ≡ Ok commands →
+    debug_response script lines lives driving image ≡ reported (lines_of lines) (λ entries. debugger_response lives entries commands driving image)
+with-commands script lines lives driving image commands e = reported-ok (script_of script.0 script.1) commands (λ commands. reported (lines_of lines) (λ entries. debugger_response lives entries commands driving image)) e
 
-pub lines-refused : (name text : List ℕ) (given : GivenFiles) (script : List ℕ × List ℕ) (lines : Option (List ℕ × List ℕ)) (driving : Driving) (image : List ℕ) (commands : List Command) (refusal : Refusal) →
-    IsGivenBoard name given text driving image → script_of script.0 script.1 ≡ Ok commands → IsRefused (λ response. lines_of lines ≡ Err response) refusal → IsRefused (HexReported name given text (debug_response script lines)) refusal
-lines-refused name text given script lines driving image commands refusal board e h =
-    refused-widen (λ response. lines_of lines ≡ Err response) (HexReported name given text (debug_response script lines)) refusal
-    (λ r f. subst (HexReported name given text (debug_response script lines))
-    (with-commands script lines driving image commands e ∙ reported-err (lines_of lines) (λ entries. script_response (debugged_by entries commands driving image)) r f) (board (debug_response script lines))) h
+pub lines-refused : (name text : List ℕ) (given : GivenFiles) (script : List ℕ × List ℕ) (lines : Option (List ℕ × List ℕ)) (lives : Option ℕ) (driving : Driving) (image : List ℕ) (commands : List Command) (refusal : Refusal) →
+    IsGivenBoard name given text driving image → script_of script.0 script.1 ≡ Ok commands → IsRefused (λ response. lines_of lines ≡ Err response) refusal → IsRefused (HexReported name given text (debug_response script lines lives)) refusal
+lines-refused name text given script lines lives driving image commands refusal board e h =
+    refused-widen (λ response. lines_of lines ≡ Err response) (HexReported name given text (debug_response script lines lives)) refusal
+    (λ r f. subst (HexReported name given text (debug_response script lines lives))
+    (with-commands script lines lives driving image commands e ∙ reported-err (lines_of lines) (λ entries. debugger_response lives entries commands driving image) r f) (board (debug_response script lines lives))) h
 
-pub script-carried : (name text : List ℕ) (given : GivenFiles) (script : List ℕ × List ℕ) (lines : Option (List ℕ × List ℕ)) (driving : Driving) (image : List ℕ) (commands : List Command) (entries : List MapEntry) →
-    IsGivenBoard name given text driving image → script_of script.0 script.1 ≡ Ok commands → lines_of lines ≡ Ok entries → HexReported name given text (debug_response script lines) (script_response (debugged_by entries commands driving image))
-script-carried name text given script lines driving image commands entries board e f =
-    subst (HexReported name given text (debug_response script lines))
-    (with-commands script lines driving image commands e ∙ reported-ok (lines_of lines) entries (λ entries. script_response (debugged_by entries commands driving image)) f) (board (debug_response script lines))
+pub script-carried : (name text : List ℕ) (given : GivenFiles) (script : List ℕ × List ℕ) (lines : Option (List ℕ × List ℕ)) (lives : Option ℕ) (driving : Driving) (image : List ℕ) (commands : List Command) (entries : List MapEntry) →
+    IsGivenBoard name given text driving image → script_of script.0 script.1 ≡ Ok commands → lines_of lines ≡ Ok entries → HexReported name given text (debug_response script lines lives) (debugger_response lives entries commands driving image)
+script-carried name text given script lines lives driving image commands entries board e f =
+    subst (HexReported name given text (debug_response script lines lives))
+    (with-commands script lines lives driving image commands e ∙ reported-ok (lines_of lines) entries (λ entries. debugger_response lives entries commands driving image) f) (board (debug_response script lines lives))

@@ -1,5 +1,5 @@
 -- Jobs that print alone: they write no file, and nothing is said of them.
-use Rattle.std.proofs.Common.{◌≡◌, ℕ, List, [], Option, Some, None, refl, ◌∙◌, ap}
+use Rattle.std.proofs.Common.{◌≡◌, [], ◌∙◌, ap}
 use Rattle.kc_kit_files.specs.declared.status.Status.{Status}
 use Rattle.kc_kit_files.specs.declared.ended.Ended.{Ended}
 use Rattle.kc_kit_files.specs.declared.ended.Said.TheVariants as said
@@ -7,22 +7,12 @@ use Rattle.kc_kit_files.specs.Response.{Response}
 use Rattle.kc_kit_files.specs.Outside.{Kept, Shown, Responses}
 use Rattle.kc_kit_files.specs.Ended.{EndsBy}
 use Rattle.kc_kit_files.proofs.EndLemmas.{Ends-widen, ends-by}
-use Rattle.kc_kit_words.specs.declared.extent.Extent.{Extent}
-use Rattle.kc_kit_inputs.specs.declared.driving.Driving.{Driving}
 use Rattle.kc_kit_answer.specs.declared.job.Job.{Job}
 use Rattle.kc_kit_answer.specs.Jobs.{does}
-use Rattle.kc_kit_running.specs.Lives.{response_over, board_response}
 
 pub record IsPrinted (response : Response) : Type 0 where
   pub none : response.writes ≡ []
   pub silent : response.diagnostic ≡ []
-
-pub board-printed : (extent : Extent) (driving : Driving) (image : List ℕ) → IsPrinted (board_response extent driving image)
-board-printed extent driving image = by extent.lives
-  where
-    by : (lives : Option ℕ) → IsPrinted (response_over lives extent.states driving image)
-    by None = record { none = refl; silent = refl }
-    by (Some most) = record { none = refl; silent = refl }
 
 pub ends-printed : (reported : Response) (job : Job) (old : Kept) (before : Shown) (ended : Ended) (given : Status) (new : Kept) (now : Shown) → IsPrinted reported → reported ≡ does job → ended.status ≡ given → ended.said ≡ said.Nothing →
     Responses (λ response. response ≡ reported) old before given new now → EndsBy (λ response. response ≡ does job) old before ended.status ended.said new now

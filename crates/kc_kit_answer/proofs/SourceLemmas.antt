@@ -74,12 +74,12 @@ image-of read law texts ms ranges places image made is filled =
           (record { unlinked_modules_count = (counts texts k.sources k.unlinked_modules ms k.collected).0; modules_count = (counts texts k.sources k.unlinked_modules ms k.collected).1; of = each read texts k.sources k.unlinked_modules ms k.collected }) is filled;
     }
 
-pub linked-placing : SourcesAreReadWell → LinkedImage → (names : List (List ℕ)) (given : GivenFiles) (ranges : Ranges) (texts : List (List ℕ)) (report : Driving → List ℕ → Response) (ms : List Object) (r : Response) → AreModules texts ms →
-    Placing names ranges (Driven given FilledReported report) ms r → Placing names ranges (Driven given (LinkedReported texts) report) ms r
+pub linked-placing : SourcesAreReadWell → LinkedImage → (names : List (List ℕ)) (given : GivenFiles) (ranges : Ranges) (texts : List (List ℕ)) (report : List Object → Places → Driving → List ℕ → Response) (ms : List Object) (r : Response) → AreModules texts ms →
+    Placing names ranges (λ ms places. Driven given FilledReported (report ms places) ms places) ms r → Placing names ranges (λ ms places. Driven given (LinkedReported texts) (report ms places) ms places) ms r
 linked-placing read law names given ranges texts report ms r made h = by (placed ms ranges) refl h
   where
-    by : (x : Result Places LinkFault) → placed ms ranges ≡ x → Then (by_places names ms x) (Driven given FilledReported report ms) r → Then (by_places names ms x) (Driven given (LinkedReported texts) report ms) r
+    by : (x : Result Places LinkFault) → placed ms ranges ≡ x → Then (by_places names ms x) (λ places. Driven given FilledReported (report ms places) ms places) r → Then (by_places names ms x) (λ places. Driven given (LinkedReported texts) (report ms places) ms places) r
     by (Ok places) e k =
-        then-map (driving_of given) (λ d. FilledReported (report d) ms places) (λ d. LinkedReported texts (report d) ms places) r
+        then-map (driving_of given) (λ d. FilledReported (report ms places d) ms places) (λ d. LinkedReported texts (report ms places d) ms places) r
         (λ d f. record { image = f.image; is_filled = f.is_filled; is_image = image-of read law texts ms ranges places f.image made e f.is_filled; reported = f.reported }) k
     by (Err f) e k = k

@@ -52,10 +52,10 @@ CommandAnswer IsDiagnostic (Some Helps) contents response = response ≡ says st
 CommandAnswer IsDiagnostic (Some (HelpsOn verb)) contents response = response ≡ says status.Done (help_on verb)
 CommandAnswer IsDiagnostic (Some ReportsVersion) contents response = response ≡ says status.Done version_line
 CommandAnswer IsDiagnostic (Some (Runs files inputs extent placing)) contents response = Then (reads_of (files ++ names_of inputs) contents) (Parted (length files) (RunAnswer IsDiagnostic files inputs extent placing)) response
-CommandAnswer IsDiagnostic (Some (Profiles files inputs states placing out)) contents response =
-    Then (reads_of (files ++ names_of inputs) contents) (Parted (length files) (ProfileAnswer IsDiagnostic files inputs states placing out)) response
-CommandAnswer IsDiagnostic (Some (ProfilesHex file inputs states out)) contents response =
-    Then (reads_of (file ∷ names_of inputs) contents) (Parted 1 (λ texts more. OneText (λ text. ProfileHexAnswer file inputs states out text more) texts)) response
+CommandAnswer IsDiagnostic (Some (Profiles files inputs extent placing behind)) contents response =
+    Then (reads_of (files ++ names_of inputs) contents) (Parted (length files) (ProfileAnswer IsDiagnostic files inputs extent placing behind)) response
+CommandAnswer IsDiagnostic (Some (ProfilesHex file inputs extent out)) contents response =
+    Then (reads_of (file ∷ names_of inputs) contents) (Parted 1 (λ texts more. OneText (λ text. ProfileHexAnswer file inputs extent out text more) texts)) response
 CommandAnswer IsDiagnostic (Some (Assembles file out list)) contents response = Then (reads_of (file ∷ []) contents) (OneText (AssembleAnswer IsDiagnostic file out list)) response
 CommandAnswer IsDiagnostic (Some (Packs files out)) contents response = Then (reads_of files contents) (PackAnswer files out) response
 CommandAnswer IsDiagnostic (Some (Links files inputs out beside placing)) contents response =
@@ -63,8 +63,8 @@ CommandAnswer IsDiagnostic (Some (Links files inputs out beside placing)) conten
 CommandAnswer IsDiagnostic (Some (RunsHex file inputs extent)) contents response =
     Then (reads_of (file ∷ names_of inputs) contents) (Parted 1 (λ texts more. OneText (λ text. RunHexAnswer file inputs extent text more) texts)) response
 CommandAnswer IsDiagnostic (Some (Lists file first last)) contents response = Then (reads_of (file ∷ []) contents) (OneText (ListAnswer file first last)) response
-CommandAnswer IsDiagnostic (Some (Debugs file script inputs)) contents response =
-    Then (reads_of (file ∷ script ∷ names_of inputs) contents) (Parted 2 (λ texts more. TwoTexts (λ text commands. DebugAnswer file script inputs text commands more) texts)) response
+CommandAnswer IsDiagnostic (Some (Debugs file script inputs lives)) contents response =
+    Then (reads_of (file ∷ script ∷ names_of inputs) contents) (Parted 2 (λ texts more. TwoTexts (λ text commands. DebugAnswer file script inputs lives text commands more) texts)) response
 CommandAnswer IsDiagnostic (Some (Generates number)) contents response = GenerateAnswer IsDiagnostic number response
 CommandAnswer IsDiagnostic (Some (Dumps trace inputs out clock)) contents response = DumpFiles trace inputs out clock contents response
 CommandAnswer IsDiagnostic (Some (Checks trace rules inputs clock)) contents response = CheckFiles trace rules inputs clock contents response
@@ -90,9 +90,9 @@ IsAccepted (Some (HelpsOn verb)) contents = Unit {0}
 IsAccepted (Some ReportsVersion) contents = Unit {0}
 IsAccepted (Some (Runs files inputs extent placing)) contents =
     Accepting (λ texts. AreRunnable files inputs placing (take (length files) texts) (drop (length files) texts)) (reads_of (files ++ names_of inputs) contents)
-IsAccepted (Some (Profiles files inputs states placing out)) contents =
+IsAccepted (Some (Profiles files inputs extent placing behind)) contents =
     Accepting (λ texts. AreRunnable files inputs placing (take (length files) texts) (drop (length files) texts)) (reads_of (files ++ names_of inputs) contents)
-IsAccepted (Some (ProfilesHex file inputs states out)) contents =
+IsAccepted (Some (ProfilesHex file inputs extent out)) contents =
     Accepting (λ texts. IsOneText (λ text. IsOk (image_of text)) (take 1 texts) × IsOk (driving_of (given_for inputs (drop 1 texts)))) (reads_of (file ∷ names_of inputs) contents)
 IsAccepted (Some (Assembles file out list)) contents = Accepting (IsOneText IsAssemblable) (reads_of (file ∷ []) contents)
 IsAccepted (Some (Packs files out)) contents = Accepting (ArePackable files) (reads_of files contents)
@@ -101,7 +101,7 @@ IsAccepted (Some (Links files inputs out beside placing)) contents =
 IsAccepted (Some (RunsHex file inputs extent)) contents =
     Accepting (λ texts. IsOneText (λ text. IsOk (image_of text)) (take 1 texts) × IsOk (driving_of (given_for inputs (drop 1 texts)))) (reads_of (file ∷ names_of inputs) contents)
 IsAccepted (Some (Lists file first last)) contents = Accepting (IsOneText (λ text. IsOk (image_of text))) (reads_of (file ∷ []) contents)
-IsAccepted (Some (Debugs file script inputs)) contents =
+IsAccepted (Some (Debugs file script inputs lives)) contents =
     Accepting (λ texts. AreTwoTexts (λ text commands. IsDebuggable script inputs text commands (drop 2 texts)) (take 2 texts)) (reads_of (file ∷ script ∷ names_of inputs) contents)
 IsAccepted (Some (Generates number)) contents = IsGenerable number
 IsAccepted (Some (Dumps trace inputs out clock)) contents = DumpAccepted trace inputs contents

@@ -15,21 +15,23 @@ use Rattle.kc_kit_files.specs.declared.status.Status.TheVariants as status
 use Rattle.kc_kit_files.specs.Outside.{OnlyRead}
 use Rattle.kc_kit_files.specs.declared.refusal.Refusal.{Refusal}
 use Rattle.kc_kit_files.specs.Response.{Response, Write, says, reports, done_writing, IsRefused, IsSaid}
-use Rattle.kc_kit_words.specs.Asked.{IsBounded}
-use Rattle.kc_kit_words.specs.Values.{max_states}
+use Rattle.kc_kit_words.specs.Asked.{AreLives, IsBounded, behind_in}
 use Rattle.kc_kit_words.specs.Commands.{Command}
 use Rattle.kc_kit_inputs.specs.declared.driving.Driving.{Driving}
 use Rattle.kc_kit_inputs.specs.FaultDiagnostics.{IsFaultDiagnostic}
+use Rattle.kc_kit_running.specs.declared.accounts.Lines.{Lines}
 use Rattle.kc_kit_running.specs.declared.board.Board.{Board}
 use Rattle.kc_kit_answer.specs.declared.job.Job.{Job}
 use Rattle.kc_kit_answer.specs.declared.job.Job.TheVariants as job
 use Rattle.kc_kit_running.specs.declared.output.Output.{Output}
 use Rattle.kc_kit_answer.specs.Answer.{MayAnswerBy}
 use Rattle.kc_kit_answer.specs.Places.{places_of}
-use Rattle.kc_kit_running.specs.Scripted.{debugged_by, script_response}
+use Rattle.kc_kit_running.specs.Scripted.{debugger_response}
 use Rattle.kc_kit_running.specs.Counted.{summary_of}
 use Rattle.kc_kit_running.specs.Lives.{board_response}
-use Rattle.kc_kit_running.specs.Profiled.{profile_response}
+use Rattle.kc_kit_running.specs.Profiled.{Known, known, profile_response}
+use Rattle.kc_kit_running.specs.Sources.{ArePlacedIn, FileLines, lines_in}
+use Rattle.kc_kit_running.specs.declared.sources.Sources.{Sources}
 use Rattle.kc_kit_running.specs.Writing.{written}
 
 abbrev pub maybe_written : Option Output → List Write
@@ -43,21 +45,21 @@ status_of false = status.Done
 
 -- the response of a job
 abbrev pub does : Job → Response
-does (job.Run board extent) = board_response extent board.driving board.image
-does (job.Profile board states entries out) = profile_response states out.now entries.items board.driving board.image
+does (job.Run board sources extent) = board_response (lines_in sources) extent board.driving board.image
+does (job.Profile board extent lines behind) = profile_response extent (behind_in behind) (known lines) board.driving board.image
 does (job.Count board number) = summary_of number board.driving board.image
 does (job.List image first last) = says status.Done (listing image first last)
-does (job.Debug board script lines) = script_response (debugged_by lines script board.driving board.image)
+does (job.Debug board lives script lines) = debugger_response lives lines script board.driving board.image
 does (job.Report verdict) = reports (status_of verdict.is_broken) verdict.text.items verdict.diagnostic.items
 does (job.Write file lines map) = done_writing (written file ∷ maybe_written lines ++ maybe_written map)
 
 -- state times and lives within their limits, and addresses in order
 abbrev pub IsDoable : Job → Type 0
-IsDoable (job.Run board extent) = IsBounded extent
-IsDoable (job.Profile board states entries out) = states ≤ max_states
+IsDoable (job.Run board sources extent) = IsBounded extent × ArePlacedIn sources
+IsDoable (job.Profile board extent lines behind) = IsBounded extent × ArePlacedIn lines.linked
 IsDoable (job.Count board number) = Unit {0}
 IsDoable (job.List image first last) = (image_start ≤ first) × (first ≤ last)
-IsDoable (job.Debug board script lines) = Unit {0}
+IsDoable (job.Debug board lives script lines) = AreLives lives
 IsDoable (job.Report verdict) = Unit {0}
 IsDoable (job.Write file lines map) = Unit {0}
 
@@ -71,10 +73,17 @@ abbrev pub IsBoard : ((Driving → List ℕ → Response) → Response → Type 
 IsBoard answer (Ok board) = (report : Driving → List ℕ → Response) → answer report (report board.driving board.image)
 IsBoard answer (Err refusal) = (report : Driving → List ℕ → Response) → IsRefused (answer report) refusal
 
--- a board with the entries of a line map
-abbrev pub IsBoardWithLines : ((List MapEntry → Driving → List ℕ → Response) → Response → Type 0) → Result (Board × Vec MapEntry) Refusal → Type 0
-IsBoardWithLines answer (Ok made) = (report : List MapEntry → Driving → List ℕ → Response) → answer report (report made.1.items made.0.driving made.0.image)
-IsBoardWithLines answer (Err refusal) = (report : List MapEntry → Driving → List ℕ → Response) → IsRefused (answer report) refusal
+-- a board with the sources of its image
+abbrev pub IsBoardOfSources : ((FileLines → Driving → List ℕ → Response) → Response → Type 0) → Result (Board × Sources) Refusal → Type 0
+IsBoardOfSources answer (Ok made) =
+    ArePlacedIn (Some made.1) × ((report : FileLines → Driving → List ℕ → Response) → answer report (report (lines_in (Some made.1)) made.0.driving made.0.image))
+IsBoardOfSources answer (Err refusal) = (report : FileLines → Driving → List ℕ → Response) → IsRefused (answer report) refusal
+
+-- a board with what is known of the lines of its sources
+abbrev pub IsBoardWithLines : ((Known → Driving → List ℕ → Response) → Response → Type 0) → Result (Board × Lines) Refusal → Type 0
+IsBoardWithLines answer (Ok made) =
+    ArePlacedIn made.1.linked × ((report : Known → Driving → List ℕ → Response) → answer report (report (known made.1) made.0.driving made.0.image))
+IsBoardWithLines answer (Err refusal) = (report : Known → Driving → List ℕ → Response) → IsRefused (answer report) refusal
 
 -- a job or a refusal, of which the response may be given
 abbrev pub IsPrepared : (Response → Type 0) → Result Job Refusal → Type 0

@@ -3,6 +3,7 @@ pub mod Answer
 pub mod Assemble
 pub mod Check
 pub mod Checking
+pub mod Cover
 pub mod Debug
 pub mod Dump
 pub mod Explain

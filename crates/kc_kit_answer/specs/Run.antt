@@ -22,6 +22,7 @@ use Rattle.kc_kit_inputs.specs.Driving.{GivenFiles, given_for, driving_of}
 use Rattle.kc_kit_inputs.specs.Sources.{DiagnosticRule, AreModules, SourcesAre, AreFaultless}
 use Rattle.kc_kit_answer.specs.Places.{places_of, Placing}
 use Rattle.kc_kit_running.specs.Lives.{board_response}
+use Rattle.kc_kit_running.specs.Sources.{FileLines, lines_of_files}
 
 -- the statements of sources, and the drafts of their modules
 abbrev pub AreCollected : List (List ℕ) → List (List Stmt) → List UnlinkedModule → List Object → Type 0
@@ -54,15 +55,21 @@ pub record LinkedReported (texts : List (List ℕ)) (report : List ℕ → Respo
 abbrev pub Driven : GivenFiles → ((List ℕ → Response) → List Object → Places → Response → Type 0) → (Driving → List ℕ → Response) → List Object → Places → Response → Type 0
 Driven given may report ms places response = Then (driving_of given) (λ driving. may (report driving) ms places) response
 
--- sources are checked, their modules are placed, it is checked what drives the inputs, and with the image the answer is this
+-- sources are checked, their modules are placed, it is checked what drives the inputs, and with the lines of the sources and the
+-- image the answer is this
+abbrev pub RunReported : DiagnosticRule → List (List ℕ) → GivenFiles → Ranges → List (List ℕ) → (FileLines → Driving → List ℕ → Response) → Response → Type 0
+RunReported IsDiagnostic names given ranges texts report response =
+    (sources : Result (List Object) Response) × SourcesAre IsDiagnostic names texts sources
+    × Then sources (Placing names ranges (λ ms places. Driven given (LinkedReported texts) (report (lines_of_files names ms places)) ms places)) response
+
+-- the same where the answer does not depend on lines
 abbrev pub SourcesReported : DiagnosticRule → List (List ℕ) → GivenFiles → Ranges → List (List ℕ) → (Driving → List ℕ → Response) → Response → Type 0
-SourcesReported IsDiagnostic names given ranges texts report response =
-    (sources : Result (List Object) Response) × SourcesAre IsDiagnostic names texts sources × Then sources (Placing names ranges (Driven given (LinkedReported texts) report)) response
+SourcesReported IsDiagnostic names given ranges texts report response = RunReported IsDiagnostic names given ranges texts (λ lines. report) response
 
 -- the answer to sources that are run
 abbrev pub RunAnswer : DiagnosticRule → List (List ℕ) → List (Role × List ℕ) → Extent → Ranges → List (List ℕ) → List (List ℕ) → Response → Type 0
 RunAnswer IsDiagnostic names inputs extent ranges texts input_texts response =
-    SourcesReported IsDiagnostic names (given_for inputs input_texts) ranges texts (board_response extent) response
+    RunReported IsDiagnostic names (given_for inputs input_texts) ranges texts (λ lines. board_response lines extent) response
 
 -- ---- what is accepted: no source has a fault, no rule of the linker is broken, and what drives the inputs has its form
 

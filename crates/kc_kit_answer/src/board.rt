@@ -1,5 +1,5 @@
 // Boards that are to be run.
-ghost use Rattle.std.specs.Prelude.{◌≡◌, ◌≤◌, length, map, string_bytes};
+ghost use Rattle.std.specs.Prelude.{◌≡◌, ◌≤◌, length, map, string_bytes, Some};
 ghost use Rattle.kc_base.specs.Limits.{file_limit};
 ghost use Rattle.kc_link.specs.Placed.{ArePlacedAt};
 ghost use Rattle.kc_kit_files.specs.Reads.{AllShort};
@@ -7,16 +7,17 @@ ghost use Rattle.kc_kit_words.specs.Asked.{AreLinkable};
 ghost use Rattle.kc_kit_inputs.specs.Driving.{given_in, AreShort};
 ghost use Rattle.kc_kit_inputs.specs.FaultDiagnostics.{IsFaultDiagnostic};
 ghost use Rattle.kc_kit_answer.specs.Hex.{HexReported};
-ghost use Rattle.kc_kit_answer.specs.Jobs.{IsBoard};
+ghost use Rattle.kc_kit_answer.specs.Jobs.{IsBoard, IsBoardOfSources};
 ghost use Rattle.kc_kit_answer.specs.Places.{Placing};
-ghost use Rattle.kc_kit_answer.specs.Run.{Driven, FilledReported, SourcesReported};
+ghost use Rattle.kc_kit_answer.specs.Run.{Driven, FilledReported, RunReported, SourcesReported};
+ghost use Rattle.kc_kit_running.specs.Sources.{ArePlacedIn, lines_in, lines_of_files};
 
 use crate::placing::place_modules;
 use kc_asm::linked_image;
 use kc_kit_files::Refusal;
 use kc_kit_inputs::{Given, assemble_sources, driving_in, image_of};
 use kc_kit_messages::Origins;
-use kc_kit_running::Board;
+use kc_kit_running::{Board, Sources};
 use kc_kit_words::Ranges;
 use kc_link::{Placement, image_at};
 use kc_obj_module::Module;
@@ -64,6 +65,71 @@ pub(crate) fn board_of_sources(
     match assemble_sources(alloc, names, texts) {
         Ok(modules) => board_of_modules(alloc, names, &modules, placing, given),
         Err(refusal) => Err(refusal),
+    }
+}
+
+/// The same board with its sources.
+pub(crate) fn board_with_sources<'a>(
+    alloc: Global,
+    names: &'a [String],
+    texts: &[Vec<u8>],
+    placing: &Ranges,
+    given: Given<'_>,
+) -> Result<(Board, Sources<'a>), Refusal>
+    requires linkable { AreLinkable (length names.now) placing.now }
+    requires count { length texts.now ≡ length names.now }
+    requires short { AllShort (map (λ t. t.items) texts.now) }
+    requires given { AreShort given }
+    ensures { IsBoardOfSources (RunReported IsFaultDiagnostic (map string_bytes names.now) (given_in given.entry) placing.now (map (λ t. t.items) texts.now)) result }
+{
+    sources_are_read_well();
+    linked_image();
+    match assemble_sources(alloc, names, texts) {
+        Ok(modules) => board_with_modules(alloc, names, modules, placing, given),
+        Err(refusal) => Err(refusal),
+    }
+}
+
+// The board of the image that is linked from the modules of files, with these.
+fn board_with_modules<'a>(
+    alloc: Global,
+    files: &'a [String],
+    modules: Vec<Module>,
+    placing: &Ranges,
+    given: Given<'_>,
+) -> Result<(Board, Sources<'a>), Refusal>
+    requires linkable { AreLinkable (length modules.items) placing.now }
+    requires given { AreShort given }
+    ensures { IsBoardOfSources (λ report. Placing (map string_bytes files.now) placing.now (λ ms places. Driven (given_in given.entry) FilledReported (report (lines_of_files (map string_bytes files.now) ms places)) ms places) modules.items) result }
+{
+    let origins = Origins {
+        files,
+        members: None,
+    };
+    let placement = match place_modules(alloc, &origins, &modules, placing) {
+        Ok(placement) => placement,
+        Err(refusal) => return Err(refusal),
+    };
+    match board_at(alloc, &modules, &placement, given) {
+        Ok(board) => Ok((board, sources_of(files, modules, placement))),
+        Err(refusal) => Err(refusal),
+    }
+}
+
+/// The sources of an image, of modules at their places.
+pub(crate) fn sources_of<'a>(
+    files: &'a [String],
+    modules: Vec<Module>,
+    placement: Placement,
+) -> Sources<'a>
+    requires { ArePlacedAt modules.items placement }
+    ensures placed { ArePlacedIn (Some result) }
+    ensures lines { lines_in (Some result) ≡ lines_of_files (map string_bytes files.now) modules.items placement.places }
+{
+    Sources {
+        files,
+        modules,
+        placement,
     }
 }
 

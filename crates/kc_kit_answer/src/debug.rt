@@ -5,7 +5,7 @@ ghost use Rattle.kc_base.specs.Causes.{Rose};
 ghost use Rattle.kc_kit_files.specs.Outside.{OnlyRead};
 ghost use Rattle.kc_kit_files.specs.Reads.{AllShort, AreHeld, MissedRead};
 ghost use Rattle.kc_kit_files.specs.Response.{IsRefused};
-ghost use Rattle.kc_kit_words.specs.Asked.{asked};
+ghost use Rattle.kc_kit_words.specs.Asked.{asked, AreLives, IsWithin};
 ghost use Rattle.kc_kit_words.specs.Inputs.{inputs_in};
 ghost use Rattle.kc_kit_answer.specs.Debug.{DebugAnswer};
 ghost use Rattle.kc_kit_answer.specs.Jobs.{IsPrepared, Prepares};
@@ -45,6 +45,7 @@ pub fn prepare_debug<'a, F: Files>(
     debug: &Debug<'a>,
     files: &mut F,
 ) -> Result<Job<'a>, Refusal>
+    requires { IsWithin (Command.Debug debug.now) }
     ensures { Prepares F.held F.read_faults F.write_faults (asked (Command.Debug debug.now)) files.old result files.new }
 {
     let (text, script) = match read_both(alloc, debug.file, debug.script, files) {
@@ -68,7 +69,8 @@ fn debug_texts<'a>(
     requires text { length text.now ≤ file_limit }
     requires script { length script.now ≤ file_limit }
     requires inputs { AllShort (map (λ t. t.items) inputs.now) }
-    ensures { IsPrepared (DebugAnswer debug.now.file.now debug.now.script.now (inputs_in debug.now.inputs) text.now script.now (map (λ t. t.items) inputs.now)) result }
+    requires lives { AreLives debug.now.lives }
+    ensures { IsPrepared (DebugAnswer debug.now.file.now debug.now.script.now (inputs_in debug.now.inputs) debug.now.lives text.now script.now (map (λ t. t.items) inputs.now)) result }
 {
     let given = given_for(debug.inputs, inputs);
     let board = match board_of_hex(alloc, debug.file, text, given) {
@@ -82,6 +84,7 @@ fn debug_texts<'a>(
     match lines_in(alloc, input_for(Role::Lines, debug.inputs, inputs)) {
         Ok(lines) => Ok(Job::Debug {
             board,
+            lives: debug.lives,
             script,
             lines,
         }),

@@ -20,7 +20,8 @@ pub static HELP: [Row; 15] = [
        [--analog FILE]            drive the analogue inputs as an analogue file says
        [--reg A-B] [--code A-B]   place registers and code from A to B
        [--data A-B] [--stack N]   place data from A to B, reserve N bytes of stack
-       [--profile FILE]           write a profile: states by address and line; not with --lives
+       [--profile FILE]           write a profile: states by address and line, latencies, depth of the stack
+       [--cover FILE]             write the coverage of lines and of conditional jumps, for lcov
 ",
     ),
     (
@@ -50,7 +51,7 @@ pub static HELP: [Row; 15] = [
        [--lives K]                run on after a reset, for K lives at most, with a watchdog
        [--stim FILE]              drive the input pins as a stimulus file says
        [--analog FILE]            drive the analogue inputs as an analogue file says
-       [--profile FILE]           write a profile: states by address; not with --lives
+       [--profile FILE]           write a profile: states by address, latencies, depth of the stack
 ",
     ),
     (
@@ -61,6 +62,7 @@ pub static HELP: [Row; 15] = [
     (
         "debug",
         "  kc96 debug NAME SCRIPT          debug the hex file NAME by the commands of SCRIPT
+       [--lives K]                run on after a reset, for K lives at most, with a watchdog
        [--lines FILE]             show source lines by a line map
        [--stim FILE]              drive the input pins as a stimulus file says
        [--analog FILE]            drive the analogue inputs as an analogue file says

@@ -1,5 +1,5 @@
 // Help on the commands.
-ghost use Rattle.std.specs.Prelude.{◌≡◌, ◌++◌, false, flat_map, IfOk, OnOk};
+ghost use Rattle.std.specs.Prelude.{◌≡◌, false, flat_map, IfOk};
 ghost use Rattle.std.specs.List.{filter};
 ghost use Rattle.std.specs.Str.{bytes_eq};
 ghost use Rattle.kc_kit_files.specs.declared.status.Status.TheVariants as status;
@@ -9,16 +9,9 @@ ghost use Rattle.kc_kit_answer.specs.Help as spec;
 
 use crate::help::{Row, help_rows};
 use kc_base::{NoMemory, Sink};
-use kc_kit_files::{Status, say};
+use kc_kit_files::{Status, put_text, say};
 use kc_trace::TraceOut;
 use std::alloc::Global;
-
-fn put(text: &mut Vec<u8>, more: &str) -> Result<(), NoMemory>
-    ensures { OnOk result (text.new.items ≡ text.old.items ++ more.now) }
-{
-    text.extend_from_slice(more.as_bytes())?;
-    Ok(())
-}
 
 // The texts of some parts.
 fn all_of(alloc: Global, rows: &[Row]) -> Result<Vec<u8>, NoMemory>
@@ -27,7 +20,7 @@ fn all_of(alloc: Global, rows: &[Row]) -> Result<Vec<u8>, NoMemory>
     let mut text = Vec::new(alloc);
     let mut left = rows;
     while let [row, rest @ ..] = left {
-        put(&mut text, row.1)?;
+        put_text(&mut text, row.1)?;
         left = rest;
     }
     Ok(text)
@@ -47,7 +40,7 @@ fn those_on(alloc: Global, verb: &str, rows: &[Row]) -> Result<Vec<u8>, NoMemory
     let mut left = rows;
     while let [row, rest @ ..] = left {
         if is_on(verb, row) {
-            put(&mut text, row.1)?;
+            put_text(&mut text, row.1)?;
         }
         left = rest;
     }

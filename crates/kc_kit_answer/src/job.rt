@@ -8,32 +8,33 @@ ghost use Rattle.kc_kit_answer.specs.Jobs.{IsDoable, does, maybe_written, status
 
 use crate::list::list_image;
 use kc_base::{Files, Image, Sink};
-use kc_debug_script::{LineMap, MapEntry, Script};
+use kc_debug_script::{LineMap, Script};
 use kc_kit_files::{Ended, Status, report};
 use kc_kit_running::{
-    Board, Output, Target, count_board, debug_board, profile_board, run_board, write_output,
+    Board, Lines, Output, Sources, count_board, debug_board, profile_board, run_board, write_output,
 };
 use kc_kit_verdict::Verdict;
-use kc_kit_words::Extent;
+use kc_kit_words::{Behind, Extent};
 use kc_trace::TraceOut;
 use std::alloc::Global;
 use std::marker::Brand;
 use std::sync::ledger::Blank;
 
-/// What is left to do: a run of a board that is printed, with or without a profile that is written, or of which the lines are counted, a listing of an image, a script
+/// What is left to do: a run of a board that is printed, with the sources of its image where they are known, with or without a profile that is written, or of which the lines are counted, a listing of an image, a script
 /// over a board, a verdict to be printed, or files to write: a first one, and
 /// others beside it: a line map, and a map of pieces and names or the listing of a source.
 #[derive(Drop)]
 pub enum Job<'a> {
     Run {
         board: Board,
+        sources: Option<Sources<'a>>,
         extent: Extent,
     },
     Profile {
         board: Board,
-        states: u64,
-        entries: Vec<MapEntry>,
-        out: &'a str,
+        extent: Extent,
+        lines: Lines<'a>,
+        behind: Behind<'a>,
     },
     Count {
         board: Board,
@@ -46,6 +47,7 @@ pub enum Job<'a> {
     },
     Debug {
         board: Board,
+        lives: Option<u16>,
         script: Script,
         lines: LineMap,
     },
@@ -72,38 +74,38 @@ pub fn perform<'a, F: Files, S: Sink>(
     ensures no_read { F.read_faults files.new ≡ F.read_faults files.old }
 {
     match job {
-        Job::Run { board, extent } => {
-            let status = run_board::<S, Brand>(alloc, board, extent, Blank::new(1), out);
-            Ended::by(status)
-        }
+        Job::Run {
+            board,
+            sources,
+            extent,
+        } => run_board::<S, Brand>(alloc, board, &sources, extent, Blank::new(1), out),
         Job::Profile {
             board,
-            states,
-            entries,
-            out: name,
+            extent,
+            lines,
+            behind,
         } => profile_board::<F, S, Brand>(
             alloc,
             board,
-            states,
-            &entries,
-            Target { name },
+            extent,
+            &lines,
+            behind,
             Blank::new(1),
             files,
             out,
         ),
         Job::Count { board, number } => {
-            let status = count_board::<S, Brand>(alloc, board, number, Blank::new(1), out);
-            Ended::by(status)
+            count_board::<S, Brand>(alloc, board, number, Blank::new(1), out)
         }
         Job::List { image, first, last } => Ended::by(list_image(&image, first, last, out)),
         Job::Debug {
             board,
+            lives,
             script,
             lines,
         } => {
             let blank = Blank::new(1);
-            let status = debug_board::<S, Brand>(alloc, board, &script, lines, blank, out);
-            Ended::by(status)
+            debug_board::<S, Brand>(alloc, board, lives, &script, lines, blank, out)
         }
         Job::Report { verdict } => report_verdict(out, verdict),
         Job::Write { file, lines, map } => write_files(alloc, &file, &lines, &map, files),

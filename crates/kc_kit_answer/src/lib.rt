@@ -6,6 +6,7 @@
 mod assemble;
 mod board;
 mod check;
+mod cover;
 mod debug;
 mod dump;
 mod explaining;

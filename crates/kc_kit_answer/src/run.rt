@@ -7,7 +7,7 @@ ghost use Rattle.kc_kit_words.specs.Inputs.{inputs_in};
 ghost use Rattle.kc_kit_answer.specs.Jobs.{IsPrepared, Prepares};
 ghost use Rattle.kc_kit_answer.specs.Run.{RunAnswer};
 
-use crate::board::board_of_sources;
+use crate::board::board_with_sources;
 use crate::job::Job;
 use kc_base::Files;
 use kc_kit_files::{Refusal, read_files};
@@ -48,9 +48,10 @@ fn run_texts<'a>(
     ensures { IsPrepared (RunAnswer IsFaultDiagnostic (map string_bytes run.now.files.now) (inputs_in run.now.inputs) run.now.extent run.now.placing (map (λ t. t.items) texts.now) (map (λ t. t.items) inputs.now)) result }
 {
     let given = given_for(run.inputs, inputs);
-    match board_of_sources(alloc, run.files, texts, &run.placing, given) {
-        Ok(board) => Ok(Job::Run {
+    match board_with_sources(alloc, run.files, texts, &run.placing, given) {
+        Ok((board, sources)) => Ok(Job::Run {
             board,
+            sources: Some(sources),
             extent: run.extent,
         }),
         Err(refusal) => Err(refusal),

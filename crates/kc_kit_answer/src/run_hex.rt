@@ -50,6 +50,7 @@ fn run_text<'a>(
     match board_of_hex(alloc, run.file, text, given) {
         Ok(board) => Ok(Job::Run {
             board,
+            sources: None,
             extent: run.extent,
         }),
         Err(refusal) => Err(refusal),

@@ -1,4 +1,5 @@
 mod AlikeLemmas
+mod KnownLemmas
 mod OneAnswerLemmas
 mod OutcomeLemmas
 mod ReadableLemmas

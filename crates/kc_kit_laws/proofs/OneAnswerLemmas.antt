@@ -1,4 +1,4 @@
--- A command has one answer and one diagnostic: each step gives one thing, by the laws of texts, images, line maps and libraries.
+-- A command has one answer and one diagnostic: each step gives one thing, by the laws of texts, images, line maps, instructions and libraries.
 use Rattle.std.specs.Prelude.{codes}
 use Rattle.std.proofs.Common.{◌≡◌, inl, inr, ℕ, List, [], ◌∷◌, ◌++◌, length, take, drop, Option, Some, None, Result, Ok, Err, map, refl, sym, ◌∙◌, ap, subst, arith}
 use Rattle.kc_source.specs.Faults.{Fault}
@@ -22,14 +22,15 @@ use Rattle.kc_asm.specs.Assembled.{IsModule}
 use Rattle.kc_asm_origin.specs.Symbol.{symbol_of}
 use Rattle.kc_asm_laws.specs.OneOrigin.{OneOrigin}
 use Rattle.kc_asm_laws.specs.Modules.{OneAnswerOfText}
-use Rattle.kc_asm_laws.specs.Laws.{OneListing}
+use Rattle.kc_asm_laws.specs.Laws.{OneInstructions, OneListing}
 use Rattle.kc_kit_files.specs.declared.status.Status.TheVariants as status
 use Rattle.kc_kit_files.specs.Response.{Response, Write, write, says, done_writing, Then}
 use Rattle.kc_kit_files.specs.Writes.{writing_readable}
 use Rattle.kc_kit_files.specs.Reads.{reads_of, text_of}
 use Rattle.kc_kit_words.specs.declared.inputs.Role.{Role}
 use Rattle.kc_kit_words.specs.declared.inputs.Role.TheVariants as role
-use Rattle.kc_kit_words.specs.Commands.{Beside, Command, Helps, HelpsOn, ReportsVersion, Runs, Profiles, Assembles, Packs, Links, RunsHex, ProfilesHex, Lists, Debugs, Generates, Dumps, Checks, Explains, names_of, names_whole}
+use Rattle.kc_kit_words.specs.declared.extent.Extent.{Extent}
+use Rattle.kc_kit_words.specs.Commands.{Behind, Beside, Command, Helps, HelpsOn, ReportsVersion, Runs, Profiles, Assembles, Packs, Links, RunsHex, ProfilesHex, Lists, Debugs, Generates, Dumps, Checks, Explains, names_of, names_whole}
 use Rattle.kc_kit_words.specs.Words.{placing_of}
 use Rattle.kc_kit_inputs.specs.Hex.{hex_of}
 use Rattle.kc_kit_inputs.specs.declared.driving.Driving.{Driving}
@@ -60,12 +61,13 @@ use Rattle.kc_kit_answer.specs.Lines.{map_text}
 use Rattle.kc_kit_answer.specs.Link.{IsMap, map_writes, LinksTo, Taking, Completed, LinkAnswer}
 use Rattle.kc_kit_answer.specs.Pack.{packed, PackAnswer}
 use Rattle.kc_kit_answer.specs.Places.{places_of, Placing}
-use Rattle.kc_debug_script.specs.declared.line_map.MapEntry.{MapEntry}
-use Rattle.kc_kit_running.specs.Profiled.{profile_response}
-use Rattle.kc_kit_answer.specs.Profile.{map_entry, DrivenWithLines, LinkedWithLines, LinesReported, ProfileAnswer, ProfileHexAnswer}
-use Rattle.kc_kit_answer.specs.Run.{LinkedReported, Driven, SourcesReported, RunAnswer}
+use Rattle.kc_kit_running.specs.Profiled.{Known, none_known, profile_response}
+use Rattle.kc_kit_running.specs.Sources.{FileLines, lines_of_files, no_lines}
+use Rattle.kc_kit_answer.specs.Profile.{AreLines, DrivenWithLines, LinkedWithLines, LinesReported, ProfileAnswer, ProfileHexAnswer}
+use Rattle.kc_kit_answer.specs.Run.{LinkedReported, Driven, RunReported, RunAnswer}
 use Rattle.kc_kit_running.specs.Lives.{board_response}
 use Rattle.kc_kit_laws.specs.OneAnswer.{silent, OneAnswer, OneDiagnostic}
+use Rattle.kc_kit_laws.proofs.KnownLemmas.{AgreesOnKnown, profile_agrees, same_known}
 
 -- ---- steps
 
@@ -106,6 +108,7 @@ pub record Laws : Type 0 where
   pub maps : OneLineMap
   pub taken : TakenOnce
   pub listings : OneListing
+  pub instructions : OneInstructions
 
 -- ---- sources
 
@@ -142,16 +145,16 @@ module _ (images : OneImage) where
   one_driven : (texts : List (List ℕ)) (given : GivenFiles) (report : Driving → List ℕ → Response) (ms : List Object) (places : Places) → IsOne (Driven given (LinkedReported texts) report ms places)
   one_driven texts given report ms places = one_then (driving_of given) (λ driving. LinkedReported texts (report driving) ms places) (λ driving. one_linked texts (report driving) ms places)
 
-  one_linked_lines : OneLineMap → (texts : List (List ℕ)) (report : List MapEntry → List ℕ → Response) (ms : List Object) (places : Places) → IsOne (LinkedWithLines texts report ms places)
-  one_linked_lines maps texts report ms places r s h k =
+  one_linked_lines : OneLineMap → OneInstructions → (names texts : List (List ℕ)) (report : Known → List ℕ → Response) → AgreesOnKnown report → (ms : List Object) (places : Places) → IsOne (LinkedWithLines names texts report ms places)
+  one_linked_lines maps law names texts report agrees ms places r s h k =
       let image : h.image ≡ k.image = images ms places h.image k.image h.is_filled k.is_filled in
-      let lines : h.entries ≡ k.entries = maps ms places h.entries k.entries h.is_map k.is_map in
-      let both : report (map map_entry h.entries) h.image ≡ report (map map_entry k.entries) k.image = λ i. report (map map_entry (lines i)) (image i) in
-      h.reported ∙ (both ∙ sym k.reported)
+      let there : AreLines names texts k.image ms places h.known = subst (λ (bytes : List ℕ). AreLines names texts bytes ms places h.known) image h.are_lines in
+      h.reported ∙ (ap (report h.known) image ∙ (agrees k.image h.known k.known (same_known maps law names texts k.image ms places h.known k.known there k.are_lines) ∙ sym k.reported))
 
-  one_driven_lines : OneLineMap → (texts : List (List ℕ)) (given : GivenFiles) (report : List MapEntry → Driving → List ℕ → Response) (ms : List Object) (places : Places) → IsOne (DrivenWithLines given (LinkedWithLines texts) report ms places)
-  one_driven_lines maps texts given report ms places =
-      one_then (driving_of given) (λ driving. LinkedWithLines texts (λ entries. report entries driving) ms places) (λ driving. one_linked_lines maps texts (λ entries. report entries driving) ms places)
+  one_driven_lines : OneLineMap → OneInstructions → (names texts : List (List ℕ)) (given : GivenFiles) (report : Known → Driving → List ℕ → Response) → ((driving : Driving) → AgreesOnKnown (λ known. report known driving)) → (ms : List Object) (places : Places) →
+      IsOne (DrivenWithLines given (LinkedWithLines names texts) report ms places)
+  one_driven_lines maps law names texts given report agrees ms places =
+      one_then (driving_of given) (λ driving. LinkedWithLines names texts (λ known. report known driving) ms places) (λ driving. one_linked_lines maps law names texts (λ known. report known driving) (agrees driving) ms places)
 
   one_map : OneLineMap → (lines : Option (List ℕ)) (ms : List Object) (places : Places) (ws us : List Write) → IsMap lines ms places ws → IsMap lines ms places us → ws ≡ us
   one_map maps None ms places ws us h k = h ∙ sym k
@@ -321,14 +324,16 @@ module _
   sources_once names texts may one r s (Err d, reported, h) (Ok ns, made, k) = absurd (no_first names texts ns d made reported)
   sources_once names texts may one r s (Err d, reported, h) (Err e, other, k) = moved d e r s h k (first_once names texts d e reported other)
 
-  reported_sources : (names : List (List ℕ)) (given : GivenFiles) (ranges : Ranges) (texts : List (List ℕ)) (report : Driving → List ℕ → Response) → AreOne (SourcesReported IsDiagnostic names given ranges texts report)
+  reported_sources : (names : List (List ℕ)) (given : GivenFiles) (ranges : Ranges) (texts : List (List ℕ)) (report : FileLines → Driving → List ℕ → Response) → AreOne (RunReported IsDiagnostic names given ranges texts report)
   reported_sources names given ranges texts report =
-      sources_once names texts (Placing names ranges (Driven given (LinkedReported texts) report)) (one_placing names ranges (Driven given (LinkedReported texts) report) (one_driven laws.images texts given report))
+      sources_once names texts (Placing names ranges (λ ms places. Driven given (LinkedReported texts) (report (lines_of_files names ms places)) ms places))
+      (one_placing names ranges (λ ms places. Driven given (LinkedReported texts) (report (lines_of_files names ms places)) ms places) (λ ms places. one_driven laws.images texts given (report (lines_of_files names ms places)) ms places))
 
-  reported_lines : (names : List (List ℕ)) (given : GivenFiles) (ranges : Ranges) (texts : List (List ℕ)) (report : List MapEntry → Driving → List ℕ → Response) → AreOne (LinesReported IsDiagnostic names given ranges texts report)
-  reported_lines names given ranges texts report =
-      sources_once names texts (Placing names ranges (DrivenWithLines given (LinkedWithLines texts) report))
-      (one_placing names ranges (DrivenWithLines given (LinkedWithLines texts) report) (one_driven_lines laws.images laws.maps texts given report))
+  reported_lines : (names : List (List ℕ)) (given : GivenFiles) (ranges : Ranges) (texts : List (List ℕ)) (extent : Extent) (behind : Behind) → AreOne (LinesReported IsDiagnostic names given ranges texts (profile_response extent behind))
+  reported_lines names given ranges texts extent behind =
+      sources_once names texts (Placing names ranges (DrivenWithLines given (LinkedWithLines names texts) (profile_response extent behind)))
+      (one_placing names ranges (DrivenWithLines given (LinkedWithLines names texts) (profile_response extent behind))
+      (one_driven_lines laws.images laws.maps laws.instructions names texts given (profile_response extent behind) (λ driving. profile_agrees extent behind driving)))
 
   assembled : (file out : List ℕ) (list : Option (List ℕ)) (texts : List (List ℕ)) → AreOne (OneText (AssembleAnswer IsDiagnostic file out list) texts)
   assembled file out list [] r s h k = absurd h
@@ -342,14 +347,14 @@ module _
   answers (Some ReportsVersion) contents r s h k = equal r s (h ∙ sym k)
   answers (Some (Runs files inputs extent ranges)) contents r s h k =
       then_one (reads_of (files ++ names_of inputs) contents) (Parted (length files) (RunAnswer IsDiagnostic files inputs extent ranges))
-      (λ texts. reported_sources files (given_for inputs (drop (length files) texts)) ranges (take (length files) texts) (board_response extent)) r s h k
-  answers (Some (Profiles files inputs states ranges out)) contents r s h k =
-      then_one (reads_of (files ++ names_of inputs) contents) (Parted (length files) (ProfileAnswer IsDiagnostic files inputs states ranges out))
-      (λ texts. reported_lines files (given_for inputs (drop (length files) texts)) ranges (take (length files) texts) (profile_response states out)) r s h k
-  answers (Some (ProfilesHex file inputs states out)) contents r s h k = equal r s
-      (one_then (reads_of (file ∷ names_of inputs) contents) (Parted 1 (λ texts more. OneText (λ text. ProfileHexAnswer file inputs states out text more) texts))
-      (λ texts. one_text (λ text. ProfileHexAnswer file inputs states out text (drop 1 texts))
-      (λ text. one_hex laws file (given_for inputs (drop 1 texts)) text (profile_response states out [])) (take 1 texts)) r s h k)
+      (λ texts. reported_sources files (given_for inputs (drop (length files) texts)) ranges (take (length files) texts) (λ lines. board_response lines extent)) r s h k
+  answers (Some (Profiles files inputs extent ranges behind)) contents r s h k =
+      then_one (reads_of (files ++ names_of inputs) contents) (Parted (length files) (ProfileAnswer IsDiagnostic files inputs extent ranges behind))
+      (λ texts. reported_lines files (given_for inputs (drop (length files) texts)) ranges (take (length files) texts) extent behind) r s h k
+  answers (Some (ProfilesHex file inputs extent out)) contents r s h k = equal r s
+      (one_then (reads_of (file ∷ names_of inputs) contents) (Parted 1 (λ texts more. OneText (λ text. ProfileHexAnswer file inputs extent out text more) texts))
+      (λ texts. one_text (λ text. ProfileHexAnswer file inputs extent out text (drop 1 texts))
+      (λ text. one_hex laws file (given_for inputs (drop 1 texts)) text (profile_response extent (record { profile = Some out; cover = None }) none_known)) (take 1 texts)) r s h k)
   answers (Some (Assembles file out list)) contents r s h k = then_one (reads_of (file ∷ []) contents) (OneText (AssembleAnswer IsDiagnostic file out list)) (assembled file out list) r s h k
   answers (Some (Packs files out)) contents r s h k = equal r s
       (one_then (reads_of files contents) (PackAnswer files out)
@@ -360,15 +365,15 @@ module _
   answers (Some (RunsHex file inputs extent)) contents r s h k = equal r s
       (one_then (reads_of (file ∷ names_of inputs) contents) (Parted 1 (λ texts more. OneText (λ text. RunHexAnswer file inputs extent text more) texts))
       (λ texts. one_text (λ text. RunHexAnswer file inputs extent text (drop 1 texts))
-      (λ text. one_hex laws file (given_for inputs (drop 1 texts)) text (board_response extent)) (take 1 texts)) r s h k)
+      (λ text. one_hex laws file (given_for inputs (drop 1 texts)) text (board_response no_lines extent)) (take 1 texts)) r s h k)
   answers (Some (Lists file first last)) contents r s h k = equal r s
       (one_then (reads_of (file ∷ []) contents) (OneText (ListAnswer file first last))
       (one_text (ListAnswer file first last) (λ text. one_then (hex_of file text) (ListingOf first last) (λ image. one_reported (says status.Done (listing image first last))))) r s h k)
-  answers (Some (Debugs file script inputs)) contents r s h k = equal r s
-      (one_then (reads_of (file ∷ script ∷ names_of inputs) contents) (Parted 2 (λ texts more. TwoTexts (λ text commands. DebugAnswer file script inputs text commands more) texts))
-      (λ texts. one_two (λ text commands. DebugAnswer file script inputs text commands (drop 2 texts))
-      (λ text commands. one_hex laws file (given_for inputs (drop 2 texts)) text (debug_response (script, commands) (input_for role.Lines inputs (drop 2 texts)))) (take 2 texts)) r s h k)
-  answers (Some (Generates number)) contents r s h k = reported_sources made_names (made_given number) (placing_of []) (made_texts number) (summary_of number) r s h k
+  answers (Some (Debugs file script inputs lives)) contents r s h k = equal r s
+      (one_then (reads_of (file ∷ script ∷ names_of inputs) contents) (Parted 2 (λ texts more. TwoTexts (λ text commands. DebugAnswer file script inputs lives text commands more) texts))
+      (λ texts. one_two (λ text commands. DebugAnswer file script inputs lives text commands (drop 2 texts))
+      (λ text commands. one_hex laws file (given_for inputs (drop 2 texts)) text (debug_response (script, commands) (input_for role.Lines inputs (drop 2 texts)) lives)) (take 2 texts)) r s h k)
+  answers (Some (Generates number)) contents r s h k = reported_sources made_names (made_given number) (placing_of []) (made_texts number) (λ lines. summary_of number) r s h k
   answers (Some (Dumps trace inputs out clock)) contents r s h k =
       let held = drop (length (names_of inputs)) contents in
       equal r s (one_then (reads_of (names_of inputs) contents) (λ texts. TraceThen trace (λ printed. DumpAnswer trace inputs out clock printed texts) held)

@@ -189,8 +189,8 @@ written_is_readable (Some Helps) contents r h = of_none r
 written_is_readable (Some (HelpsOn verb)) contents r h = of_none r
 written_is_readable (Some ReportsVersion) contents r h = of_none r
 written_is_readable (Some (Runs files inputs extent placing)) contents r h = of_none r
-written_is_readable (Some (Profiles files inputs states placing out)) contents r h = of_none r
-written_is_readable (Some (ProfilesHex file inputs states out)) contents r h = of_none r
+written_is_readable (Some (Profiles files inputs extent placing behind)) contents r h = of_none r
+written_is_readable (Some (ProfilesHex file inputs extent out)) contents r h = of_none r
 written_is_readable (Some (Assembles file out list)) contents r h =
     then_all (out ∷ []) (reads_of (file ∷ []) contents) (OneText (AssembleAnswer AnyDiagnostic file out list)) r (of_reads (out ∷ []) (file ∷ []) contents) (λ texts k. of_assembled file out list texts r k) h
 written_is_readable (Some (Packs files out)) contents r h =
@@ -201,7 +201,7 @@ written_is_readable (Some (Links files inputs out beside placing)) contents r h 
     (λ texts k. of_linked files (input_for role.Library inputs (drop (length files) texts)) out beside placing (take (length files) texts) r k) h
 written_is_readable (Some (RunsHex file inputs extent)) contents r h = of_none r
 written_is_readable (Some (Lists file first last)) contents r h = of_none r
-written_is_readable (Some (Debugs file script inputs)) contents r h = of_none r
+written_is_readable (Some (Debugs file script inputs lives)) contents r h = of_none r
 written_is_readable (Some (Generates number)) contents r h = of_none r
 written_is_readable (Some (Dumps trace inputs out clock)) contents r h = of_none r
 written_is_readable (Some (Checks trace rules inputs clock)) contents r h = of_none r

@@ -9,7 +9,9 @@ ghost use Rattle.kc_kit_laws.specs.Readable.{WrittenIsReadable};
 ghost use Rattle.kc_kit_laws.specs.StartLevels.{StartLevelsAgree};
 
 use kc_asm::linked_image;
-use kc_asm_laws::{filled_are_bytes, modules_fit, one_answer_of_text, one_listing, one_origin};
+use kc_asm_laws::{
+    filled_are_bytes, modules_fit, one_answer_of_text, one_instructions, one_listing, one_origin,
+};
 use kc_hex::written_is_read;
 use kc_lib::laws::taken_once;
 use kc_link::{one_image, one_line_map};
@@ -38,6 +40,7 @@ pub fn one_answer()
     one_line_map();
     taken_once();
     one_listing();
+    one_instructions();
 }
 
 /// A command has one diagnostic too: what may be replied with what is said of a fault of a source is the same with the same diagnostic.
@@ -49,6 +52,7 @@ pub fn one_diagnostic()
     one_line_map();
     taken_once();
     one_listing();
+    one_instructions();
     one_origin();
 }
 

@@ -1,8 +1,11 @@
 pub mod Counted
+pub mod Counting
 pub mod Fitted
 pub mod Lives
+pub mod Passing
 pub mod Profiled
 pub mod Running
 pub mod Scripted
+pub mod Sources
 pub mod Watched
 pub mod Writing

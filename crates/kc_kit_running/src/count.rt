@@ -1,17 +1,20 @@
 // A run of which the lines are counted.
-ghost use Rattle.std.specs.Prelude.{◌≡◌, ◌++◌, List, ℕ, Option, None, false, length, IfOk, OnOk};
+ghost use Rattle.std.specs.Prelude.{◌≡◌, ◌++◌, List, [], ℕ, Option, None, false, length, IfOk, OnOk};
 ghost use Rattle.kc_base.specs.Fresh.{IsFresh};
 ghost use Rattle.kc_trace.specs.Text.{line_of};
 ghost use Rattle.kc_trace.specs.declared.record.Record.TheVariants.{Stopped};
 ghost use Rattle.kc_machine_spec.specs.Text.{end_state, end_number, HasRun};
-ghost use Rattle.kc_kit_files.specs.Outside.{Prints, shown_by};
+ghost use Rattle.kc_kit_files.specs.Ended.{EndsPrinting};
+ghost use Rattle.kc_kit_files.specs.Outside.{shown_by};
 ghost use Rattle.kc_kit_running.specs.Counted.{counts_text, numbered, summary_of};
+ghost use Rattle.kc_kit_running.specs.Running.{ends_with};
+ghost use Rattle.kc_kit_running.specs.Sources.{no_lines};
 
 use crate::board::Board;
 use crate::fitted::fitted_machine;
-use crate::image_run::status_of;
+use crate::image_run::ended_run;
 use kc_base::{Failed, NoMemory, Sink, StateTime, Steps, put_number};
-use kc_kit_files::{Status, say};
+use kc_kit_files::{Ended, Status};
 use kc_machine::{End, stopped};
 use kc_trace::{Counts, TraceOut, line};
 use std::alloc::Global;
@@ -81,14 +84,14 @@ pub fn count_board<S: Sink, L: Ledger>(
     number: u16,
     blank: Blank,
     out: &mut TraceOut<S>,
-) -> Status
+) -> Ended<'static>
     requires ready { out.old.failed ≡ false }
     requires fresh { IsFresh blank L.name L.parts }
     requires whole { blank.parts ≡ 1 }
-    ensures { Prints (λ response. response ≡ summary_of number board.driving board.image) (shown_by S.written S.faults out.old.sink) result (shown_by S.written S.faults out.new.sink) }
+    ensures { EndsPrinting (λ response. response ≡ summary_of number board.driving board.image) (shown_by S.written S.faults out.old.sink) result (shown_by S.written S.faults out.new.sink) }
 {
     let Ok(mut machine) = fitted_machine(alloc, board) else {
-        return Status::NoMemory;
+        return Ended::by(Status::NoMemory);
     };
     let mut steps = Steps::<L>::new(blank);
     let mut trace = TraceOut::new(Silence);
@@ -96,7 +99,20 @@ pub fn count_board<S: Sink, L: Ledger>(
         unreachable!();
     };
     match summary(alloc, number, trace.counts(), end, machine.now()) {
-        Ok(text) => say(out, &text, status_of(end)),
-        Err(NoMemory) => Status::NoMemory,
+        Ok(text) => said_run(alloc, &text, end, out),
+        Err(NoMemory) => Ended::by(Status::NoMemory),
+    }
+}
+
+// Prints a text, and gives how the command has ended whose run has ended so.
+fn said_run<S: Sink>(alloc: Global, text: &[u8], how: End, out: &mut TraceOut<S>) -> Ended<'static>
+    requires ready { out.old.failed ≡ false }
+    ensures { EndsPrinting (λ response. response ≡ ends_with no_lines how text.now []) (shown_by S.written S.faults out.old.sink) result (shown_by S.written S.faults out.new.sink) }
+{
+    out.put_text(text);
+    if out.failed() {
+        Ended::by(Status::WriteFault)
+    } else {
+        ended_run(alloc, &None, how)
     }
 }

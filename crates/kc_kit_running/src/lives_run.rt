@@ -1,16 +1,19 @@
 // A run of an image that goes on after a reset.
 ghost use Rattle.std.specs.Prelude.{◌≡◌, ◌≤◌, false};
 ghost use Rattle.kc_base.specs.Fresh.{IsFresh};
-ghost use Rattle.kc_kit_files.specs.Outside.{Prints, shown_by};
+ghost use Rattle.kc_kit_files.specs.Ended.{EndsPrinting};
+ghost use Rattle.kc_kit_files.specs.Outside.{shown_by};
 ghost use Rattle.kc_kit_words.specs.Values.{max_states, max_lives};
 ghost use Rattle.kc_kit_running.specs.Lives.{board_lives, lives_response};
+ghost use Rattle.kc_kit_running.specs.Sources.{ArePlacedIn, lines_in};
 
 use crate::board::Board;
 use crate::fitting::Fitting;
-use crate::image_run::status_of;
+use crate::image_run::ended_run;
+use crate::sources::Sources;
 use kc_base::{Sink, Steps};
 use kc_cycles::{LivesFault, run_lives};
-use kc_kit_files::Status;
+use kc_kit_files::{Ended, Status};
 use kc_kit_inputs::Driving;
 use kc_trace::TraceOut;
 use std::alloc::Global;
@@ -20,18 +23,20 @@ use std::sync::ledger::{Blank, Ledger};
 pub(crate) fn run_board_lives<S: Sink, L: Ledger>(
     alloc: Global,
     board: Board,
+    sources: &Option<Sources<'_>>,
     states: u64,
     lives: u16,
     blank: Blank,
     out: &mut TraceOut<S>,
-) -> Status
+) -> Ended<'static>
     requires ready { out.old.failed ≡ false }
     requires states { states ≤ max_states }
+    requires placed { ArePlacedIn sources.now }
     requires some { 1 ≤ lives }
     requires few { lives ≤ max_lives }
     requires fresh { IsFresh blank L.name L.parts }
     requires whole { blank.parts ≡ 1 }
-    ensures { Prints (λ response. response ≡ lives_response (board_lives lives states board.driving board.image)) (shown_by S.written S.faults out.old.sink) result (shown_by S.written S.faults out.new.sink) }
+    ensures { EndsPrinting (λ response. response ≡ lives_response (lines_in sources.now) (board_lives lives states board.driving board.image)) (shown_by S.written S.faults out.old.sink) result (shown_by S.written S.faults out.new.sink) }
 {
     let Board { image, driving } = board;
     let Driving { stimuli, values } = driving;
@@ -40,8 +45,8 @@ pub(crate) fn run_board_lives<S: Sink, L: Ledger>(
     match run_lives(
         alloc, &image, &stimuli, &fitting, states, lives, out, &mut steps,
     ) {
-        Ok(end) => status_of(end),
-        Err(LivesFault::WriteFault) => Status::WriteFault,
-        Err(LivesFault::NoMemory) => Status::NoMemory,
+        Ok(end) => ended_run(alloc, sources, end),
+        Err(LivesFault::WriteFault) => Ended::by(Status::WriteFault),
+        Err(LivesFault::NoMemory) => Ended::by(Status::NoMemory),
     }
 }

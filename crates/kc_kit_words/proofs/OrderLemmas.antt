@@ -130,11 +130,11 @@ twice verb (f ∷ prefix) back p q h =
 -- a command knows no more of its options than their values and the files for reading
 commands-alike : (verb : List ℕ) (files a b : List (List ℕ)) → ((x : List ℕ) → value_of x a ≡ value_of x b) → inputs_of verb a ≡ inputs_of verb b → command_by verb files a ≡ command_by verb files b
 commands-alike verb [] a b values inputs = refl
-commands-alike verb (f ∷ []) a b values inputs = rw (values (codes "--states"), values (codes "--lives"), values (codes "--profile"), values (codes "--out"), values (codes "--list"), values (codes "--lines"), values (codes "--map"), values (codes "--clock"), values (codes "--reg"), values (codes "--code"), values (codes "--data"), values (codes "--stack"), inputs) refl
+commands-alike verb (f ∷ []) a b values inputs = rw (values (codes "--states"), values (codes "--lives"), values (codes "--profile"), values (codes "--cover"), values (codes "--out"), values (codes "--list"), values (codes "--lines"), values (codes "--map"), values (codes "--clock"), values (codes "--reg"), values (codes "--code"), values (codes "--data"), values (codes "--stack"), inputs) refl
 commands-alike verb (f ∷ g ∷ []) a b values inputs =
-    rw (values (codes "--states"), values (codes "--lives"), values (codes "--profile"), values (codes "--out"), values (codes "--lines"), values (codes "--map"), values (codes "--clock"), values (codes "--reg"), values (codes "--code"), values (codes "--data"), values (codes "--stack"), inputs) refl
+    rw (values (codes "--states"), values (codes "--lives"), values (codes "--profile"), values (codes "--cover"), values (codes "--out"), values (codes "--lines"), values (codes "--map"), values (codes "--clock"), values (codes "--reg"), values (codes "--code"), values (codes "--data"), values (codes "--stack"), inputs) refl
 commands-alike verb (f ∷ g ∷ h ∷ files) a b values inputs =
-    rw (values (codes "--states"), values (codes "--lives"), values (codes "--profile"), values (codes "--out"), values (codes "--lines"), values (codes "--map"), values (codes "--reg"), values (codes "--code"), values (codes "--data"), values (codes "--stack"), inputs) refl
+    rw (values (codes "--states"), values (codes "--lives"), values (codes "--profile"), values (codes "--cover"), values (codes "--out"), values (codes "--lines"), values (codes "--map"), values (codes "--reg"), values (codes "--code"), values (codes "--data"), values (codes "--stack"), inputs) refl
 
 pub in_any_order : OptionsInAnyOrder
 in_any_order verb files prefix back p q none = by (bytes_eq p.0 q.0) refl

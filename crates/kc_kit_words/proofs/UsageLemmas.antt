@@ -12,12 +12,12 @@ use Rattle.kc_kit_words.specs.declared.extent.Extent.{Extent}
 use Rattle.kc_kit_words.specs.declared.values.Form.{Form}
 use Rattle.kc_kit_words.specs.declared.usage.Wrong.TheVariants as wrong
 use Rattle.kc_kit_words.specs.Number.{number_of}
-use Rattle.kc_kit_words.specs.Options.{form_of, has_form, value_of, are_options, inputs_of, clock_in, extent_in}
+use Rattle.kc_kit_words.specs.Options.{form_of, has_form, value_of, are_options, inputs_of, clock_in, extent_in, lives_in}
 use Rattle.kc_kit_words.specs.Values.{is_name, is_trace_name, range_of}
-use Rattle.kc_kit_words.specs.Usage.{wrong_text, no_command, bad_value, bad_number, twice, lacks, wrong_value, wrong_last, wrong_option, lacks_out, wrong_run, wrong_extent, wrong_listing, wrong_placing, wrong_outputs, wrong_name, wrong_files, wrong_file, wrong_trace, wrong_dump, wrong_pair, wrong_range, wrong_list, wrong_number, wrong_word, wrong_more, wrong_by, wrong_with, wrong_writes, overwrites, plain_usage_of, wrong_check}
+use Rattle.kc_kit_words.specs.Usage.{wrong_text, no_command, bad_value, bad_number, twice, lacks, wrong_value, wrong_last, wrong_option, lacks_out, wrong_extent, wrong_listing, wrong_placing, wrong_outputs, wrong_name, wrong_files, wrong_file, wrong_trace, wrong_dump, wrong_pair, wrong_range, wrong_list, wrong_number, wrong_word, wrong_more, wrong_by, wrong_with, wrong_writes, overwrites, plain_usage_of, wrong_check, wrong_run_options}
 use Rattle.kc_kit_words.specs.UsageLaw.{WrongWhereNoCommand}
 use Rattle.kc_kit_words.specs.Commands.{Command, Helps, ReportsVersion, Runs, Profiles, Assembles, Packs, Links, ProfilesHex, Lists, Debugs, Generates, overwritten, sparing, Checks}
-use Rattle.kc_kit_words.specs.Words.{count_files, files_of, options_of, are_files, placing_of, is_other, are_apart, beside_of, run_so, run_by, assembles_by, assemble_by, pack_by, links_by, link_by, hex_so, hex_by, lists_by, list_by, debug_by, generate_by, dumps_by, dump_by, explain_by, alone, command_by, help_on, plain_command_of, check_by}
+use Rattle.kc_kit_words.specs.Words.{count_files, files_of, options_of, are_files, placing_of, is_other, are_apart, beside_of, run_so, run_by, assembles_by, assemble_by, pack_by, links_by, link_by, hex_so, hex_by, lists_by, list_by, debug_by, generate_by, dumps_by, dump_by, explain_by, alone, command_by, help_on, plain_command_of, check_by, behind_of, differ}
 use Rattle.kc_kit_words.proofs.OptionLemmas.{behind}
 
 -- ---- options, in pairs with their values
@@ -133,26 +133,31 @@ out-agrees : (make : List ℕ → Command) (out : Option (List ℕ)) → is_some
 out-agrees make None = refl
 out-agrees make (Some out) = refl
 
-run-agrees : (files : List (List ℕ)) (verb : List ℕ) (options : List (List ℕ)) → is_some (option_or (wrong_files files) (option_or (wrong_extent options) (wrong_placing options))) ≡ is_none (run_by files verb options)
+run-agrees : (files : List (List ℕ)) (verb : List ℕ) (options : List (List ℕ)) → is_some (option_or (wrong_files files) (wrong_run_options options)) ≡ is_none (run_by files verb options)
 run-agrees files verb options =
-    gate (wrong_files files) (option_or (wrong_extent options) (wrong_placing options)) (are_files files)
-    (run_so (value_of (codes "--profile") options) files (inputs_of verb options) (extent_in options) (placing_of options)) (files-agree files)
-    (by (value_of (codes "--profile") options) (extent_in options))
+    gate (wrong_files files) (wrong_run_options options) (are_files files)
+    (run_so (behind_of options) files (inputs_of verb options) (extent_in options) (placing_of options)) (files-agree files)
+    (by (value_of (codes "--profile") options) (value_of (codes "--cover") options) (extent_in options))
   where
     placed : (b : Bool) (c : Command) → is_some (cond b None (Some (wrong_text wrong.OutOfBounds))) ≡ is_none (cond b (Some c) None)
     placed true c = refl
     placed false c = refl
 
-    both : (one b : Bool) (c : Command) → is_some (option_or (cond one None (Some (wrong_text wrong.MoreLives))) (cond b None (Some (wrong_text wrong.OutOfBounds)))) ≡ is_none (cond (one && b) (Some c) None)
+    both : (one b : Bool) (c : Command) → is_some (option_or (cond one None (Some (wrong_text wrong.SameFile))) (cond b None (Some (wrong_text wrong.OutOfBounds)))) ≡ is_none (cond (one && b) (Some c) None)
     both true true c = refl
     both true false c = refl
     both false b c = refl
 
-    by : (profile : Option (List ℕ)) (extent : Option Extent) → is_some (option_or (wrong_run profile extent) (wrong_placing options)) ≡ is_none (run_so profile files (inputs_of verb options) extent (placing_of options))
-    by None None = refl
-    by (Some out) None = refl
-    by None (Some e) = placed (are_in_bounds (placing_of options)) (Runs files (inputs_of verb options) e (placing_of options))
-    by (Some out) (Some e) = both (is_none e.lives) (are_in_bounds (placing_of options)) (Profiles files (inputs_of verb options) e.states (placing_of options) out)
+    by : (profile cover : Option (List ℕ)) (extent : Option Extent) →
+        is_some (option_or (cond (is_some extent) None (Some (lacks (codes "--states")))) (option_or (cond (differ profile cover) None (Some (wrong_text wrong.SameFile))) (wrong_placing options)))
+        ≡ is_none (run_so (record { profile = profile; cover = cover }) files (inputs_of verb options) extent (placing_of options))
+    by None None None = refl
+    by None (Some c) None = refl
+    by (Some p) cover None = refl
+    by None None (Some e) = placed (are_in_bounds (placing_of options)) (Runs files (inputs_of verb options) e (placing_of options))
+    by None (Some c) (Some e) = both true (are_in_bounds (placing_of options)) (Profiles files (inputs_of verb options) e (placing_of options) (record { profile = None; cover = Some c }))
+    by (Some p) cover (Some e) =
+        both (is_other p cover) (are_in_bounds (placing_of options)) (Profiles files (inputs_of verb options) e (placing_of options) (record { profile = Some p; cover = cover }))
 
 asm-agrees : (files options : List (List ℕ)) → is_some (option_or (wrong_file files) (wrong_listing (value_of (codes "--out") options) (value_of (codes "--list") options))) ≡ is_none (assemble_by files options)
 asm-agrees [] options = refl
@@ -195,15 +200,11 @@ hex-agrees (file ∷ []) verb options =
     gate (wrong_name file) (wrong_extent options) (is_name file) (hex_so (value_of (codes "--profile") options) file (inputs_of verb options) (extent_in options)) (name-agrees file)
     (by (value_of (codes "--profile") options) (extent_in options))
   where
-    one : (b : Bool) (c : Command) → is_some (cond b None (Some (wrong_text wrong.MoreLives))) ≡ is_none (cond b (Some c) None)
-    one true c = refl
-    one false c = refl
-
-    by : (profile : Option (List ℕ)) (extent : Option Extent) → is_some (wrong_run profile extent) ≡ is_none (hex_so profile file (inputs_of verb options) extent)
+    by : (profile : Option (List ℕ)) (extent : Option Extent) → is_some (cond (is_some extent) None (Some (lacks (codes "--states")))) ≡ is_none (hex_so profile file (inputs_of verb options) extent)
     by None None = refl
     by (Some out) None = refl
     by None (Some e) = refl
-    by (Some out) (Some e) = one (is_none e.lives) (ProfilesHex file (inputs_of verb options) e.states out)
+    by (Some out) (Some e) = refl
 hex-agrees (file ∷ other ∷ files) verb options = refl
 
 list-agrees : (files : List (List ℕ)) → is_some (wrong_list files) ≡ is_none (list_by files)
@@ -223,7 +224,7 @@ list-agrees (file ∷ range ∷ word ∷ words) = refl
 debug-agrees : (files : List (List ℕ)) (verb : List ℕ) (options : List (List ℕ)) → is_some (wrong_pair files) ≡ is_none (debug_by files verb options)
 debug-agrees [] verb options = refl
 debug-agrees (file ∷ []) verb options = refl
-debug-agrees (file ∷ script ∷ []) verb options = by (is_name file) (is_name script) (Debugs file script (inputs_of verb options))
+debug-agrees (file ∷ script ∷ []) verb options = by (is_name file) (is_name script) (Debugs file script (inputs_of verb options) (lives_in options))
   where
     by : (a b : Bool) (c : Command) → is_some (option_or (cond a None (Some (wrong_text wrong.BadName))) (cond b None (Some (wrong_text wrong.BadName)))) ≡ is_none (cond (a && b) (Some c) None)
     by true true c = refl

@@ -12,20 +12,25 @@ pub record Beside : Type 0 where
   pub lines : Option (List ℕ)
   pub map : Option (List ℕ)
 
+-- the files that are written behind a run, where they are asked for
+pub record Behind : Type 0 where
+  pub profile : Option (List ℕ)
+  pub cover : Option (List ℕ)
+
 -- A command. Beside its first files it may have further ones to be read, each for a role.
 pub data Command : Type 0 where
   Helps : Command
   HelpsOn : List ℕ → Command
   ReportsVersion : Command
   Runs : List (List ℕ) → List (Role × List ℕ) → Extent → Ranges → Command
-  Profiles : List (List ℕ) → List (Role × List ℕ) → ℕ → Ranges → List ℕ → Command
+  Profiles : List (List ℕ) → List (Role × List ℕ) → Extent → Ranges → Behind → Command
   Assembles : List ℕ → List ℕ → Option (List ℕ) → Command
   Packs : List (List ℕ) → List ℕ → Command
   Links : List (List ℕ) → List (Role × List ℕ) → List ℕ → Beside → Ranges → Command
   RunsHex : List ℕ → List (Role × List ℕ) → Extent → Command
-  ProfilesHex : List ℕ → List (Role × List ℕ) → ℕ → List ℕ → Command
+  ProfilesHex : List ℕ → List (Role × List ℕ) → Extent → List ℕ → Command
   Lists : List ℕ → ℕ → ℕ → Command
-  Debugs : List ℕ → List ℕ → List (Role × List ℕ) → Command
+  Debugs : List ℕ → List ℕ → List (Role × List ℕ) → Option ℕ → Command
   Generates : ℕ → Command
   Dumps : List ℕ → List (Role × List ℕ) → List ℕ → ℕ → Command
   Checks : List ℕ → List ℕ → List (Role × List ℕ) → ℕ → Command
@@ -46,11 +51,11 @@ names_read (Some (Runs files inputs extent placing)) = files ++ names_of inputs
 names_read (Some (Assembles file out list)) = file ∷ []
 names_read (Some (Packs files out)) = files
 names_read (Some (Links files inputs out beside placing)) = files ++ names_of inputs
-names_read (Some (Profiles files inputs states placing out)) = files ++ names_of inputs
-names_read (Some (ProfilesHex file inputs states out)) = file ∷ names_of inputs
+names_read (Some (Profiles files inputs extent placing behind)) = files ++ names_of inputs
+names_read (Some (ProfilesHex file inputs extent out)) = file ∷ names_of inputs
 names_read (Some (RunsHex file inputs extent)) = file ∷ names_of inputs
 names_read (Some (Lists file first last)) = file ∷ []
-names_read (Some (Debugs file script inputs)) = file ∷ script ∷ names_of inputs
+names_read (Some (Debugs file script inputs lives)) = file ∷ script ∷ names_of inputs
 names_read (Some (Dumps trace inputs out clock)) = names_of inputs ++ trace ∷ []
 names_read (Some (Checks trace rules inputs clock)) = names_whole rules inputs ++ trace ∷ []
 names_read _ = []
@@ -59,13 +64,17 @@ names_read _ = []
 abbrev pub names_beside : Beside → List (List ℕ)
 names_beside beside = option_to_list beside.lines ++ option_to_list beside.map
 
+-- the files behind a run
+abbrev pub names_behind : Behind → List (List ℕ)
+names_behind behind = option_to_list behind.profile ++ option_to_list behind.cover
+
 abbrev pub names_written : Option Command → List (List ℕ)
 names_written (Some (Assembles file out list)) = out ∷ option_to_list list
 names_written (Some (Packs files out)) = out ∷ []
 names_written (Some (Links files inputs out beside placing)) = out ∷ names_beside beside
 names_written (Some (Dumps trace inputs out clock)) = out ∷ []
-names_written (Some (Profiles files inputs states placing out)) = out ∷ []
-names_written (Some (ProfilesHex file inputs states out)) = out ∷ []
+names_written (Some (Profiles files inputs extent placing behind)) = names_behind behind
+names_written (Some (ProfilesHex file inputs extent out)) = out ∷ []
 names_written _ = []
 
 -- ---- a command writes no file that it reads

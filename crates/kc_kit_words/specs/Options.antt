@@ -32,14 +32,14 @@ out_option = (codes "--out", form.File)
 
 abbrev pub options_for : List ℕ → List (List ℕ × Form)
 options_for verb =
-    if bytes_eq verb (codes "run") then running_options ++ placing_options
+    if bytes_eq verb (codes "run") then (codes "--cover", form.File) ∷ running_options ++ placing_options
     else if bytes_eq verb (codes "asm") then out_option ∷ (codes "--list", form.File) ∷ []
     else if bytes_eq verb (codes "lib") then out_option ∷ []
     else if bytes_eq verb (codes "link") then out_option ∷ (codes "--lines", form.File) ∷ (codes "--map", form.File) ∷ (codes "--lib", form.Input role.Library) ∷ placing_options
     else if bytes_eq verb (codes "hex") then running_options
     else if bytes_eq verb (codes "vcd") then out_option ∷ (codes "--clock", form.Clock) ∷ driving_options
     else if bytes_eq verb (codes "check") then (codes "--stim", form.Input role.Stimuli) ∷ (codes "--clock", form.Clock) ∷ []
-    else if bytes_eq verb (codes "debug") then (codes "--lines", form.Input role.Lines) ∷ driving_options
+    else if bytes_eq verb (codes "debug") then (codes "--lines", form.Input role.Lines) ∷ (codes "--lives", form.Lives) ∷ driving_options
     else []
 
 abbrev pub form_among : List ℕ → List (List ℕ × Form) → Option Form

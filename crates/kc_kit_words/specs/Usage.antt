@@ -1,12 +1,11 @@
 -- What is wrong in words that are no command (this kit's own): the first thing that is, by the same tables as what a command takes.
-use Rattle.std.specs.Prelude.{ℕ, nat_le, List, [], ◌∷◌, ◌++◌, codes, length, Option, Some, None, is_none, is_some, if◌then◌else◌}
+use Rattle.std.specs.Prelude.{ℕ, nat_le, List, [], ◌∷◌, ◌++◌, codes, length, Option, Some, None, is_some, if◌then◌else◌}
 use Rattle.std.specs.List.{list_all}
 use Rattle.std.specs.Option.{option_map, option_or}
 use Rattle.std.specs.Str.{bytes_eq}
 use Rattle.kc_base.specs.Limits.{image_start}
 use Rattle.kc_link_place.specs.Ranges.{are_in_bounds, lies_within}
 use Rattle.kc_kit_files.specs.Shown.{word_shown}
-use Rattle.kc_kit_words.specs.declared.extent.Extent.{Extent}
 use Rattle.kc_kit_words.specs.declared.usage.Wrong.{Wrong}
 use Rattle.kc_kit_words.specs.declared.usage.Wrong.TheVariants as wrong
 use Rattle.kc_kit_words.specs.declared.values.Form.{Form}
@@ -14,7 +13,7 @@ use Rattle.kc_kit_words.specs.Number.{number_of}
 use Rattle.kc_kit_words.specs.Options.{is_option, form_of, has_form, value_of, extent_in}
 use Rattle.kc_kit_words.specs.Values.{is_name, is_trace_name, range_of}
 use Rattle.kc_kit_words.specs.Commands.{Beside, Command, overwritten}
-use Rattle.kc_kit_words.specs.Words.{files_of, options_of, placing_of, is_other, are_apart, beside_of, command_by, help_on}
+use Rattle.kc_kit_words.specs.Words.{files_of, options_of, placing_of, is_other, are_apart, are_different, behind_of, beside_of, command_by, help_on}
 
 -- ---- texts, in which a word that was given stands as it is shown
 
@@ -65,7 +64,6 @@ wrong_text wrong.FewWords = codes "too few words"
 wrong_text wrong.ManyWords = codes "too many words"
 wrong_text wrong.SameFile = codes "two files to write have one name"
 wrong_text (wrong.Overwrites name) = overwrites name.now
-wrong_text wrong.MoreLives = codes "--profile does not go with --lives"
 wrong_text wrong.OutOfBounds = codes "a range is out of bounds"
 wrong_text (wrong.BadRange range) = bad_range range.now
 wrong_text (wrong.BadNumber number) = bad_number number.now
@@ -95,17 +93,19 @@ wrong_option verb (option ∷ value ∷ words) = option_or (wrong_value (form_of
 abbrev pub lacks_out : List (List ℕ) → Option (List ℕ)
 lacks_out options = if is_some (value_of (codes "--out") options) then None else Some (lacks (codes "--out"))
 
--- a run needs to know how far it goes, and a profile is of one life
-abbrev pub wrong_run : Option (List ℕ) → Option Extent → Option (List ℕ)
-wrong_run profile None = Some (lacks (codes "--states"))
-wrong_run None (Some extent) = None
-wrong_run (Some profile) (Some extent) = if is_none extent.lives then None else Some (wrong_text wrong.MoreLives)
-
+-- a run needs to know how far it goes
 abbrev pub wrong_extent : List (List ℕ) → Option (List ℕ)
-wrong_extent options = wrong_run (value_of (codes "--profile") options) (extent_in options)
+wrong_extent options = if is_some (extent_in options) then None else Some (lacks (codes "--states"))
+
+-- the files behind a run are different ones
+abbrev pub wrong_behind : List (List ℕ) → Option (List ℕ)
+wrong_behind options = if are_different (behind_of options) then None else Some (wrong_text wrong.SameFile)
 
 abbrev pub wrong_placing : List (List ℕ) → Option (List ℕ)
 wrong_placing options = if are_in_bounds (placing_of options) then None else Some (wrong_text wrong.OutOfBounds)
+
+abbrev pub wrong_run_options : List (List ℕ) → Option (List ℕ)
+wrong_run_options options = option_or (wrong_extent options) (option_or (wrong_behind options) (wrong_placing options))
 
 abbrev pub wrong_outputs : Option (List ℕ) → Beside → Option (List ℕ)
 wrong_outputs None beside = Some (lacks (codes "--out"))
@@ -185,7 +185,7 @@ wrong_more (word ∷ words) = Some (wrong_text wrong.ManyWords)
 
 abbrev pub wrong_by : List ℕ → List (List ℕ) → List (List ℕ) → Option (List ℕ) → Option (List ℕ)
 wrong_by verb files options wrong_options =
-    if bytes_eq verb (codes "run") then option_or wrong_options (option_or (wrong_files files) (option_or (wrong_extent options) (wrong_placing options)))
+    if bytes_eq verb (codes "run") then option_or wrong_options (option_or (wrong_files files) (wrong_run_options options))
     else if bytes_eq verb (codes "asm")
     then option_or wrong_options (option_or (wrong_file files) (wrong_listing (value_of (codes "--out") options) (value_of (codes "--list") options)))
     else if bytes_eq verb (codes "lib") then option_or wrong_options (option_or (wrong_files files) (lacks_out options))

@@ -1,5 +1,5 @@
 -- What the words of a command line ask for (this kit's own).
-use Rattle.std.specs.Prelude.{ℕ, Bool, true, not, is_none, ◌&&◌, nat_le, List, [], ◌∷◌, codes, length, take, drop, Option, Some, None, if◌then◌else◌}
+use Rattle.std.specs.Prelude.{ℕ, Bool, true, not, is_some, ◌&&◌, ◌||◌, nat_le, List, [], ◌∷◌, codes, length, take, drop, Option, Some, None, if◌then◌else◌}
 use Rattle.std.specs.List.{prefix_len, list_all, list_any}
 use Rattle.std.specs.Option.{option_map, option_or, unwrap_or}
 use Rattle.std.specs.Str.{bytes_eq}
@@ -8,8 +8,8 @@ use Rattle.kc_link_place.specs.declared.ranges.Ranges.{Ranges}
 use Rattle.kc_link_place.specs.Ranges.{are_in_bounds, default_ranges, lies_within}
 use Rattle.kc_kit_words.specs.declared.extent.Extent.{Extent}
 use Rattle.kc_kit_words.specs.declared.inputs.Role.{Role}
-use Rattle.kc_kit_words.specs.Commands.{Beside, Command, Helps, HelpsOn, ReportsVersion, Runs, Profiles, Assembles, Packs, Links, RunsHex, ProfilesHex, Lists, Debugs, Generates, Dumps, Checks, Explains, sparing}
-use Rattle.kc_kit_words.specs.Options.{is_option, are_options, inputs_of, value_of, clock_in, extent_in, range_in, length_in}
+use Rattle.kc_kit_words.specs.Commands.{Beside, Command, Helps, HelpsOn, ReportsVersion, Runs, Profiles, Assembles, Packs, Links, RunsHex, ProfilesHex, Lists, Debugs, Generates, Dumps, Checks, Explains, sparing, Behind}
+use Rattle.kc_kit_words.specs.Options.{lives_in, is_option, are_options, inputs_of, value_of, clock_in, extent_in, range_in, length_in}
 use Rattle.kc_kit_words.specs.Number.{number_of}
 use Rattle.kc_kit_words.specs.Values.{is_name, is_trace_name, range_of}
 
@@ -44,22 +44,34 @@ abbrev pub runs_by : List (List ℕ) → List (Role × List ℕ) → Option Exte
 runs_by files inputs None placing = None
 runs_by files inputs (Some extent) placing = if are_in_bounds placing then Some (Runs files inputs extent placing) else None
 
--- the states of one life may be counted
-abbrev pub profiles_by : List (List ℕ) → List (Role × List ℕ) → Option Extent → Ranges → List ℕ → Option Command
-profiles_by files inputs None placing out = None
-profiles_by files inputs (Some extent) placing out = if is_none extent.lives && are_in_bounds placing then Some (Profiles files inputs extent.states placing out) else None
-
-abbrev pub run_so : Option (List ℕ) → List (List ℕ) → List (Role × List ℕ) → Option Extent → Ranges → Option Command
-run_so None files inputs extent placing = runs_by files inputs extent placing
-run_so (Some out) files inputs extent placing = profiles_by files inputs extent placing out
-
-abbrev pub run_by : List (List ℕ) → List ℕ → List (List ℕ) → Option Command
-run_by files verb options = if are_files files then run_so (value_of (codes "--profile") options) files (inputs_of verb options) (extent_in options) (placing_of options) else None
-
 -- a second file is another one
 abbrev pub is_other : List ℕ → Option (List ℕ) → Bool
 is_other out None = true
 is_other out (Some lines) = not (bytes_eq lines out)
+
+-- the files that are written behind a run
+abbrev pub behind_of : List (List ℕ) → Behind
+behind_of options = record { profile = value_of (codes "--profile") options; cover = value_of (codes "--cover") options }
+
+abbrev pub is_asked : Behind → Bool
+is_asked behind = is_some behind.profile || is_some behind.cover
+
+abbrev pub differ : Option (List ℕ) → Option (List ℕ) → Bool
+differ None second = true
+differ (Some first) second = is_other first second
+
+abbrev pub are_different : Behind → Bool
+are_different behind = differ behind.profile behind.cover
+
+abbrev pub profiles_by : List (List ℕ) → List (Role × List ℕ) → Option Extent → Ranges → Behind → Option Command
+profiles_by files inputs None placing behind = None
+profiles_by files inputs (Some extent) placing behind = if are_different behind && are_in_bounds placing then Some (Profiles files inputs extent placing behind) else None
+
+abbrev pub run_so : Behind → List (List ℕ) → List (Role × List ℕ) → Option Extent → Ranges → Option Command
+run_so behind files inputs extent placing = if is_asked behind then profiles_by files inputs extent placing behind else runs_by files inputs extent placing
+
+abbrev pub run_by : List (List ℕ) → List ℕ → List (List ℕ) → Option Command
+run_by files verb options = if are_files files then run_so (behind_of options) files (inputs_of verb options) (extent_in options) (placing_of options) else None
 
 -- an object, and a listing where it is asked for
 abbrev pub assembles_by : List ℕ → Option (List ℕ) → Option (List ℕ) → Option Command
@@ -95,13 +107,9 @@ link_by files verb options =
     then links_by files (inputs_of verb options) (value_of (codes "--out") options) (beside_of options) (placing_of options)
     else None
 
-abbrev pub profiles_hex_by : List ℕ → List (Role × List ℕ) → Option Extent → List ℕ → Option Command
-profiles_hex_by file inputs None out = None
-profiles_hex_by file inputs (Some extent) out = if is_none extent.lives then Some (ProfilesHex file inputs extent.states out) else None
-
 abbrev pub hex_so : Option (List ℕ) → List ℕ → List (Role × List ℕ) → Option Extent → Option Command
 hex_so None file inputs extent = option_map (RunsHex file inputs) extent
-hex_so (Some out) file inputs extent = profiles_hex_by file inputs extent out
+hex_so (Some out) file inputs extent = option_map (λ e. ProfilesHex file inputs e out) extent
 
 abbrev pub hex_of : List ℕ → List ℕ → List (List ℕ) → Option Command
 hex_of file verb options = if is_name file then hex_so (value_of (codes "--profile") options) file (inputs_of verb options) (extent_in options) else None
@@ -124,7 +132,7 @@ list_by _ = None
 
 -- a hex file and a script
 abbrev pub debug_of : List ℕ → List ℕ → List ℕ → List (List ℕ) → Option Command
-debug_of file script verb options = if is_name file && is_name script then Some (Debugs file script (inputs_of verb options)) else None
+debug_of file script verb options = if is_name file && is_name script then Some (Debugs file script (inputs_of verb options) (lives_in options)) else None
 
 abbrev pub debug_by : List (List ℕ) → List ℕ → List (List ℕ) → Option Command
 debug_by (file ∷ script ∷ []) verb options = debug_of file script verb options

@@ -11,14 +11,21 @@ pub struct Run<'a> {
     pub placing: Ranges,
 }
 
-/// A run of 1 to 64 sources for so many state times, of which a profile is written.
+/// The files that are written behind a run, where they are asked for: a profile, and which lines of the sources have run.
+#[derive(Clone, Copy)]
+pub struct Behind<'a> {
+    pub profile: Option<&'a str>,
+    pub cover: Option<&'a str>,
+}
+
+/// A run of 1 to 64 sources behind which at least one of these files is written.
 #[derive(Clone, Copy)]
 pub struct Profile<'a> {
     pub files: &'a [String],
     pub inputs: Inputs<'a>,
-    pub states: u64,
+    pub extent: Extent,
     pub placing: Ranges,
-    pub out: &'a str,
+    pub behind: Behind<'a>,
 }
 
 /// A source that is assembled to an object, and where it is asked for the listing that is written beside it.
@@ -62,12 +69,12 @@ pub struct RunHex<'a> {
     pub extent: Extent,
 }
 
-/// A run of a hex file for so many state times, of which a profile is written.
+/// A run of a hex file, of which a profile is written.
 #[derive(Clone, Copy)]
 pub struct ProfileHex<'a> {
     pub file: &'a str,
     pub inputs: Inputs<'a>,
-    pub states: u64,
+    pub extent: Extent,
     pub out: &'a str,
 }
 
@@ -79,12 +86,13 @@ pub struct List<'a> {
     pub last: u16,
 }
 
-/// A run of a hex file as the commands of a script say.
+/// A run of a hex file as the commands of a script say, over at most so many lives where an option gives their number.
 #[derive(Clone, Copy)]
 pub struct Debug<'a> {
     pub file: &'a str,
     pub script: &'a str,
     pub inputs: Inputs<'a>,
+    pub lives: Option<u16>,
 }
 
 /// A run of the input that is made from a number.
@@ -117,7 +125,7 @@ pub struct Explain<'a> {
     pub code: &'a str,
 }
 
-/// A command that is known of.
+/// A command whose help is asked for.
 #[derive(Clone, Copy)]
 pub struct HelpOn<'a> {
     pub verb: &'a str,

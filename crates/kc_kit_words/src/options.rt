@@ -84,9 +84,12 @@ pub(crate) fn form_of(verb: &str, option: &str) -> Option<Form>
     ensures { result ≡ form_of verb.now option.now }
 {
     match verb {
-        "run" => match running_form(option) {
-            None => placing_form(option),
-            form => form,
+        "run" => match option {
+            "--cover" => Some(Form::File),
+            _ => match running_form(option) {
+                None => placing_form(option),
+                form => form,
+            },
         },
         "asm" => match option {
             "--out" | "--list" => Some(Form::File),
@@ -114,6 +117,7 @@ pub(crate) fn form_of(verb: &str, option: &str) -> Option<Form>
         },
         "debug" => match option {
             "--lines" => Some(Form::Input(Role::Lines)),
+            "--lives" => Some(Form::Lives),
             _ => driving_form(option),
         },
         _ => None,
@@ -173,8 +177,8 @@ fn states_in(words: &[String]) -> Option<u64>
     states(value_of("--states", words)?)
 }
 
-// How many lives a run has at most, where an option says it.
-fn lives_in(words: &[String]) -> Option<u16>
+/// How many lives a run has at most, where an option says it.
+pub(crate) fn lives_in(words: &[String]) -> Option<u16>
     ensures value { result ≡ lives_in (map string_bytes words.now) }
     ensures some { IfSome result (λ n. 1 ≤ n) }
     ensures within { IfSome result (λ n. n ≤ max_lives) }

@@ -77,7 +77,7 @@ fn written<'a>(command: &Command<'a>) -> (Option<&'a str>, Option<&'a str>, Opti
     ensures { option_to_list (option_map (λ n. n.now) result.0) ++ option_to_list (option_map (λ n. n.now) result.1) ++ option_to_list (option_map (λ n. n.now) result.2) ≡ names_written (Some (asked command.now)) }
 {
     match command {
-        Command::Profile(run) => (Some(run.out), None, None),
+        Command::Profile(run) => (run.behind.profile, run.behind.cover, None),
         Command::Assemble(assemble) => (Some(assemble.out), assemble.list, None),
         Command::Pack(pack) => (Some(pack.out), None, None),
         Command::Link(link) => (Some(link.out), link.beside.lines, link.beside.map),

@@ -6,18 +6,18 @@ ghost use Rattle.kc_trace.specs.Trace.{out_of};
 ghost use Rattle.kc_kit_files.specs.Shown.{word_shown};
 ghost use Rattle.kc_kit_words.specs.Asked.{asked};
 ghost use Rattle.kc_kit_words.specs.Options.{form_of, value_of};
-ghost use Rattle.kc_kit_words.specs.Usage.{wrong_text, bad_value, lacks, unknown, wrong_writes, wrong_value, wrong_last, wrong_option, lacks_out, wrong_extent, wrong_listing, wrong_placing, wrong_outputs, wrong_name, wrong_files, wrong_file, wrong_pair, wrong_trace, wrong_dump, wrong_check, wrong_range, wrong_list, wrong_number, wrong_word, wrong_more, wrong_by, plain_usage_of, usage_of, usage_diagnostic};
+ghost use Rattle.kc_kit_words.specs.Usage.{wrong_text, bad_value, lacks, unknown, wrong_writes, wrong_value, wrong_last, wrong_option, lacks_out, wrong_extent, wrong_listing, wrong_placing, wrong_outputs, wrong_name, wrong_files, wrong_file, wrong_pair, wrong_trace, wrong_dump, wrong_check, wrong_range, wrong_list, wrong_number, wrong_word, wrong_more, wrong_by, plain_usage_of, usage_of, usage_diagnostic, wrong_behind, wrong_run_options};
 ghost use Rattle.kc_kit_words.specs.UsageLaw.{WrongWhereNoCommand};
 ghost use Rattle.kc_kit_words.specs.Values.{range_of};
 ghost use Rattle.kc_kit_words.specs.Words.{beside_of};
 
 use crate::command::Command;
-use crate::extent::Extent;
 use crate::options::{count_files, extent_in, form_of, is_option, value_of};
 use crate::overwriting::overwritten;
 use crate::values::{has_form, is_name, is_trace_name, range, short};
 use crate::words::{
-    MAX_FILES, are_apart, are_names, beside_in, help_on, is_other, placing, read_command,
+    MAX_FILES, are_apart, are_different, are_names, behind_in, beside_in, help_on, is_other,
+    placing, read_command,
 };
 use kc_base::{IMAGE_START, Sink};
 use kc_kit_files::report_word;
@@ -52,8 +52,6 @@ pub enum Wrong<'a> {
     SameFile,
     /// A file is to be written that is read too.
     Overwrites(&'a str),
-    /// A profile of more lives than one.
-    MoreLives,
     /// A range of addresses is out of its bounds.
     OutOfBounds,
     /// The word is no range of addresses.
@@ -119,7 +117,6 @@ impl Wrong<'_> {
                     name,
                 );
             }
-            Wrong::MoreLives => diagnostics.put_text(b"--profile does not go with --lives"),
             Wrong::OutOfBounds => diagnostics.put_text(b"a range is out of bounds"),
             Wrong::BadRange(range) => put_word(diagnostics, "bad range ", range),
             Wrong::BadNumber(number) => put_word(diagnostics, "bad number ", number),
@@ -208,14 +205,24 @@ fn lacks_out<'a>(options: &[String]) -> Option<Wrong<'a>>
     }
 }
 
-// Whether a run with these options lacks how far it goes, or has a profile of more lives than one.
+// Whether a run with these options lacks how far it goes.
 fn wrong_extent<'a>(options: &[String]) -> Option<Wrong<'a>>
     ensures { option_map wrong_text result ≡ wrong_extent (map string_bytes options.now) }
 {
-    match (value_of("--profile", options), extent_in(options)) {
-        (_, None) => Some(Wrong::Lacks("--states")),
-        (Some(_), Some(Extent { lives: Some(_), .. })) => Some(Wrong::MoreLives),
-        _ => None,
+    match extent_in(options) {
+        None => Some(Wrong::Lacks("--states")),
+        Some(_) => None,
+    }
+}
+
+// What is wrong with the files that are to be written behind a run.
+fn wrong_behind<'a>(options: &[String]) -> Option<Wrong<'a>>
+    ensures { option_map wrong_text result ≡ wrong_behind (map string_bytes options.now) }
+{
+    if are_different(behind_in(options)) {
+        None
+    } else {
+        Some(Wrong::SameFile)
     }
 }
 
@@ -407,14 +414,21 @@ fn wrong_more<'a>(words: &[String]) -> Option<Wrong<'a>>
     }
 }
 
-// What is wrong with the files of a run, or how far it goes, or where pieces may stand.
-fn wrong_run<'a>(files: &[String], options: &[String]) -> Option<Wrong<'a>>
-    ensures { option_map wrong_text result ≡ option_or (wrong_files (map string_bytes files.now)) (option_or (wrong_extent (map string_bytes options.now)) (wrong_placing (map string_bytes options.now))) }
+// What is wrong with how far a run goes, or with the files behind it, or where pieces may stand.
+fn wrong_run_options<'a>(options: &[String]) -> Option<Wrong<'a>>
+    ensures { option_map wrong_text result ≡ wrong_run_options (map string_bytes options.now) }
 {
     first(
-        wrong_files(files),
-        first(wrong_extent(options), wrong_placing(options)),
+        wrong_extent(options),
+        first(wrong_behind(options), wrong_placing(options)),
     )
+}
+
+// What is wrong with the files of a run, or with its options.
+fn wrong_run<'a>(files: &[String], options: &[String]) -> Option<Wrong<'a>>
+    ensures { option_map wrong_text result ≡ option_or (wrong_files (map string_bytes files.now)) (wrong_run_options (map string_bytes options.now)) }
+{
+    first(wrong_files(files), wrong_run_options(options))
 }
 
 // What is wrong with the files of linking, or where pieces may stand.

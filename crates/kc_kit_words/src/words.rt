@@ -3,19 +3,19 @@ ghost use Rattle.std.specs.Prelude.{◌≡◌, Some, IfSome, length, map, string
 ghost use Rattle.std.specs.List.{list_all};
 ghost use Rattle.std.specs.Option.{option_map, unwrap_or};
 ghost use Rattle.kc_kit_words.specs.Values.{is_name};
-ghost use Rattle.kc_kit_words.specs.Words.{command_of, plain_command_of, command_by, run_by, assemble_by, pack_by, link_by, hex_by, hex_of, list_by, list_of, debug_by, debug_of, generate_by, dump_by, dump_of, check_by, check_of, explain_by, are_files, beside_of, placing_of};
+ghost use Rattle.kc_kit_words.specs.Words.{command_of, plain_command_of, command_by, run_by, assemble_by, pack_by, link_by, hex_by, hex_of, list_by, list_of, debug_by, debug_of, generate_by, dump_by, dump_of, check_by, check_of, explain_by, are_files, beside_of, placing_of, behind_of};
 ghost use Rattle.kc_kit_words.specs.Words as spec;
-ghost use Rattle.kc_kit_words.specs.Asked.{asked, beside_in, AreLinkable, IsBounded, IsWithin};
+ghost use Rattle.kc_kit_words.specs.Asked.{asked, behind_in, beside_in, AreLinkable, IsBounded, IsWithin};
 ghost use Rattle.kc_kit_words.specs.Inputs.{inputs_in};
 
 use crate::command::{
-    Assemble, Beside, Check, Command, Debug, Dump, Explain, Generate, HelpOn, Link, List, Pack,
-    Profile, ProfileHex, Run, RunHex,
+    Assemble, Behind, Beside, Check, Command, Debug, Dump, Explain, Generate, HelpOn, Link, List,
+    Pack, Profile, ProfileHex, Run, RunHex,
 };
 use crate::extent::Extent;
 use crate::inputs::Inputs;
 use crate::options::{
-    are_options, clock_in, count_files, extent_in, length_in, range_in, value_of,
+    are_options, clock_in, count_files, extent_in, length_in, lives_in, range_in, value_of,
 };
 use crate::overwriting::sparing;
 use crate::values::{is_name, is_trace_name, range, short};
@@ -81,48 +81,69 @@ fn read_run<'a>(files: &'a [String], verb: &'a str, options: &'a [String]) -> Op
         words: options,
     };
     if placing.are_within_bounds() {
-        run_so(
-            files,
-            inputs,
-            extent,
-            placing,
-            value_of("--profile", options),
-        )
+        run_so(files, inputs, extent, placing, behind_in(options))
     } else {
         None
     }
 }
 
-// A run, of which a profile is written where a file is named for it; the run is one life then.
+// The files that are asked for behind a run.
+pub(crate) fn behind_in(options: &[String]) -> Behind<'_>
+    ensures { behind_in result ≡ behind_of (map string_bytes options.now) }
+{
+    Behind {
+        profile: value_of("--profile", options),
+        cover: value_of("--cover", options),
+    }
+}
+
+// Whether one of these files is asked for.
+fn is_asked(behind: Behind<'_>) -> bool
+    ensures { result ≡ spec.is_asked (behind_in behind.entry) }
+{
+    behind.profile.is_some() || behind.cover.is_some()
+}
+
+// Whether the files that are written behind a run are different ones.
+pub(crate) fn are_different(behind: Behind<'_>) -> bool
+    ensures { result ≡ spec.are_different (behind_in behind.entry) }
+{
+    match behind.profile {
+        None => true,
+        Some(profile) => is_other(profile, behind.cover),
+    }
+}
+
+// A run, behind which files are written where they are named.
 fn run_so<'a>(
     files: &'a [String],
     inputs: Inputs<'a>,
     extent: Extent,
     placing: Ranges,
-    out: Option<&'a str>,
+    behind: Behind<'a>,
 ) -> Option<Command<'a>>
     requires bounded { IsBounded extent }
     requires linkable { AreLinkable (length files.now) placing }
-    ensures asked { option_map asked result ≡ spec.run_so (option_map (λ o. o.now) out.entry) (map string_bytes files.now) (inputs_in inputs.entry) (Some extent) placing }
+    ensures asked { option_map asked result ≡ spec.run_so (behind_in behind.entry) (map string_bytes files.now) (inputs_in inputs.entry) (Some extent) placing }
     ensures within { IfSome result IsWithin }
 {
-    let Some(out) = out else {
+    if !is_asked(behind) {
         return Some(Command::Run(Run {
             files,
             inputs,
             extent,
             placing,
         }));
-    };
-    if extent.lives.is_some() {
+    }
+    if !are_different(behind) {
         return None;
     }
     Some(Command::Profile(Profile {
         files,
         inputs,
-        states: extent.states,
+        extent,
         placing,
-        out,
+        behind,
     }))
 }
 
@@ -233,7 +254,7 @@ fn hex_run<'a>(file: &'a str, verb: &'a str, options: &'a [String]) -> Option<Co
     hex_so(file, inputs, extent, value_of("--profile", options))
 }
 
-// A run of a hex file, of which a profile is written where a file is named for it; the run is one life then.
+// A run of a hex file, of which a profile is written where a file is named for it.
 fn hex_so<'a>(
     file: &'a str,
     inputs: Inputs<'a>,
@@ -251,13 +272,10 @@ fn hex_so<'a>(
             extent,
         }));
     };
-    if extent.lives.is_some() {
-        return None;
-    }
     Some(Command::ProfileHex(ProfileHex {
         file,
         inputs,
-        states: extent.states,
+        extent,
         out,
     }))
 }
@@ -316,6 +334,7 @@ fn debugging<'a>(
                 verb,
                 words: options,
             },
+            lives: lives_in(options),
         }))
     } else {
         None

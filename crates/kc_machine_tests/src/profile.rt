@@ -7,7 +7,7 @@ use crate::board::machine_of;
 use kc_base::{MemSink, Steps};
 use kc_extra::NoExtra;
 use kc_machine::Machine;
-use kc_profile::{Profile, Spot, run_profiled};
+use kc_profile::{Profile, Spot, Statistics, run_profiled};
 use kc_trace::TraceOut;
 use std::alloc::Global;
 use std::marker::Brand;
@@ -38,6 +38,7 @@ const PARTS: [(u16, &[u8]); 4] = [
 fn go<L: Ledger>(
     machine: &mut Machine<NoExtra>,
     profile: &mut Profile,
+    statistics: &mut Statistics,
     until: u64,
     out: &mut TraceOut<MemSink>,
     steps: &mut Steps<L>,
@@ -50,7 +51,7 @@ fn go<L: Ledger>(
     ensures time { machine.new.machine.time ≤ 1000 }
     ensures counted { total profile.new ≤ total profile.old + 1000 }
 {
-    match run_profiled(machine, profile, until, out, steps) {
+    match run_profiled(machine, profile, statistics, until, out, steps) {
         Ok(_) => Ok(()),
         Err(_) => Err("the sink failed".into()),
     }
@@ -62,10 +63,25 @@ fn counted<L: Ledger>(alloc: Global, blank: Blank) -> Result<Profile, Fail>
 {
     let mut machine = machine_of(alloc, &PARTS)?;
     let mut profile = Profile::new(alloc)?;
+    let mut statistics = Statistics::new(alloc, 1)?;
     let mut out = TraceOut::new(MemSink::new(alloc, 4096, Vec::new(alloc))?);
     let mut steps = Steps::<L>::new(blank);
-    go(&mut machine, &mut profile, 97, &mut out, &mut steps)?;
-    go(&mut machine, &mut profile, 1000, &mut out, &mut steps)?;
+    go(
+        &mut machine,
+        &mut profile,
+        &mut statistics,
+        97,
+        &mut out,
+        &mut steps,
+    )?;
+    go(
+        &mut machine,
+        &mut profile,
+        &mut statistics,
+        1000,
+        &mut out,
+        &mut steps,
+    )?;
     Ok(profile)
 }
 

@@ -1,5 +1,5 @@
 -- A run that is counted, on its way.
-use Rattle.std.proofs.Common.{◌≡◌, ℕ, ◌+◌, ◌-◌, ◌*◌, ◌<◌, ◌≤◌, min, max, ◌⊎◌, inl, inr, List, [], ◌++◌, length, Some, None, refl, sym, ap, subst, ◌∙◌, append_assoc, append-nil, length-append, arith}
+use Rattle.std.proofs.Common.{◌≡◌, ℕ, zero, suc, ◌+◌, ◌-◌, ◌*◌, ◌<◌, ◌≤◌, min, max, ◌⊎◌, inl, inr, List, [], ◌++◌, length, Some, None, refl, sym, ap, subst, ◌∙◌, append_assoc, append-nil, length-append, arith}
 use Rattle.std.specs.Prelude.{replicate}
 use Rattle.std.proofs.lemmas.Bool.{cases_lt}
 use Rattle.std.proofs.lemmas.List.{length-replicate}
@@ -7,10 +7,10 @@ use Rattle.kc_extra.specs.Further.{Further}
 use Rattle.kc_trace.specs.Out.{Out, Prints}
 use Rattle.kc_trace.proofs.Printed.{Prints-append}
 use Rattle.kc_machine_spec.specs.declared.doing.End.{End}
-use Rattle.kc_machine_spec.specs.Machine.{Machine, Stepped}
+use Rattle.kc_machine_spec.specs.Machine.{Machine, Stepped, current}
 use Rattle.kc_machine_spec.specs.Passing.{activity_end}
-use Rattle.kc_machine_spec.specs.Run.{and_then, run_to}
-use Rattle.kc_machine_spec.proofs.Runs.{run_to-append, run_to-still, run_to-touch}
+use Rattle.kc_machine_spec.specs.Run.{and_then, run_for, run_to}
+use Rattle.kc_machine_spec.proofs.Runs.{run-none, run_to-append, run_to-still, run_to-touch}
 use Rattle.kc_machine_spec.proofs.Coming.{Came, Came-first, Came-next, Came-far, Came-over}
 use Rattle.kc_machine.specs.Failing.{FailsIn}
 use Rattle.kc_machine.specs.Stepping.{IsBrief, IdlesFor}
@@ -18,7 +18,7 @@ use Rattle.kc_profile.specs.declared.spot.Spot.{Spot}
 use Rattle.kc_profile.specs.Spots.{coming_spot, spots_for}
 use Rattle.kc_profile.specs.Tally.{Tally, IsTallyOf, total}
 use Rattle.kc_profile.specs.Passing.{LastsFor, Passed}
-use Rattle.kc_profile.proofs.Spotted.{spots-none, spots-ended, spots-add, spots-activity, end-stays, end-idle}
+use Rattle.kc_profile.proofs.Spotted.{spots-one, spots-none, spots-ended, spots-add, spots-activity, end-stays, end-idle}
 
 module _ {X : Type 0} (f : Further X) where
   -- ---- some states
@@ -198,3 +198,41 @@ module _ {X : Type 0} (f : Further X) where
         let same : m ≡ m0 = along-same until m0 o0 t0 s0 v0 m o t s v along none in
         absurd (let e : None ≡ Some how = sym lives ∙ ap (λ (k : Machine X). k.ended) (sym same) ∙ over in cc)
   ]
+
+  -- ---- one state, or to the end of an activity
+
+  -- a call that was to end with the present activity, of which at least one state is left
+  pub fails-within : (stop until : ℕ) (m : Machine X) (o : Out) (n : Machine X) (p : Out) → m.ended ≡ None → stop ≡ min until (m.time + max (current m).left 1) → n.time ≤ stop → FailsIn f stop m o n p → FailsIn f until m o n p
+  fails-within stop until m o n p lives is within fails = elim (cases_lt fails.began (activity_end m)) [
+    | inl inside ↦
+        let over = end-stays f fails.began m lives fails.from inside in
+        record {
+          began = fails.began;
+          mid = fails.mid;
+          from = fails.from;
+          begins = fails.begins;
+          whole = fails.whole;
+          unbroken = fails.unbroken;
+          part = fails.part;
+          failed = fails.failed;
+          stands = fails.stands;
+          over = fails.over ∙ (let e : min stop (activity_end (run_to f fails.began m).machine) ≡ min until (activity_end (run_to f fails.began m).machine) = omega (arith, over, is, inside, fails.from) in e);
+        }
+    | inr past ↦
+        -- an activity of no state: it is the first, and would be over at once
+        let here : fails.began ≡ m.time = omega (arith, past, fails.from, fails.begins, within, is) in
+        let none : fails.began - m.time ≡ 0 = omega (arith, here) in
+        let same : activity_end (run_to f fails.began m).machine ≡ activity_end m = ap (λ i. activity_end (run_for f i m).machine) none ∙ ap (λ (s : Stepped X). activity_end s.machine) (run-none f m) in
+        absurd (omega (arith, fails.over, same, past, here, fails.begins))
+  ]
+
+  pub spots-within : (k : ℕ) (m : Machine X) → m.ended ≡ None → k ≤ max (current m).left 1 → spots_for f k m ≡ replicate k (coming_spot m)
+  spots-within k m lives few = elim (cases_lt 1 k) [
+    | inl more ↦ spots-activity f k m lives (omega (arith, more, few))
+    | inr less ↦ spots-first k m lives less
+  ]
+    where
+      spots-first : (k : ℕ) (m : Machine X) → m.ended ≡ None → k ≤ 1 → spots_for f k m ≡ replicate k (coming_spot m)
+      spots-first zero m lives few = spots-none f m
+      spots-first (suc zero) m lives few = spots-one f m lives
+      spots-first (suc (suc k)) m lives few = absurd (omega (arith, few))

@@ -2,3 +2,17 @@ pub mod Spotted
 pub mod Going
 pub mod Numbers
 pub mod Tallies
+pub mod Since
+pub mod SpreadsOf
+pub mod Times
+pub mod Seen
+pub mod States
+pub mod Alone
+pub mod Nothing
+pub mod Histories
+pub mod StatisticsOne
+pub mod Branches
+pub mod Added
+pub mod Few
+pub mod Empty
+pub mod Together

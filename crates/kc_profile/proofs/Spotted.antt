@@ -38,7 +38,7 @@ module _ {X : Type 0} (f : Further X) where
   spots-lives : (k : ℕ) (m : Machine X) → m.ended ≡ None → spots_for f (suc k) m ≡ coming_spot m ∷ spots_for f k (run_for f 1 m).machine
   spots-lives k m lives = spots-suc k m ∙ ap (λ o. unless_over o (coming_spot m ∷ spots_for f k (run_for f 1 m).machine)) lives
 
-  spots-one : (m : Machine X) → m.ended ≡ None → spots_for f 1 m ≡ coming_spot m ∷ []
+  pub spots-one : (m : Machine X) → m.ended ≡ None → spots_for f 1 m ≡ coming_spot m ∷ []
   spots-one m lives = spots-lives 0 m lives ∙ ap (λ xs. coming_spot m ∷ xs) (spots-none (run_for f 1 m).machine)
 
   -- in two parts
@@ -114,7 +114,7 @@ module _ {X : Type 0} (f : Further X) where
 
   -- ---- idle states
 
-  current-idle : (m : Machine X) → IsIdle m → asked m ≡ Go → current m ≡ record { doing = Idles; left = 1 }
+  pub current-idle : (m : Machine X) → IsIdle m → asked m ≡ Go → current m ≡ record { doing = Idles; left = 1 }
   unfolding chosen
   current-idle m idle none =
       ap (current_of m) idle.between
@@ -141,7 +141,7 @@ module _ {X : Type 0} (f : Further X) where
       ∙ ap (λ (s : Stepped X). s.machine.time) (one_more f mid here.0 here.1)
       ∙ time
 
-  idle-first : (n : ℕ) (m : Machine X) → IdlesFor f n m → 0 < n → IsIdle m × (asked m ≡ Go)
+  pub idle-first : (n : ℕ) (m : Machine X) → IdlesFor f n m → 0 < n → IsIdle m × (asked m ≡ Go)
   idle-first n m idles some = subst (λ (x : Machine X). IsIdle x × (asked x ≡ Go)) (ap (λ (s : Stepped X). s.machine) (run-none f m)) (idles 0 some)
 
   pub lives-idle : (n : ℕ) (m : Machine X) → IdlesFor f n m → 0 < n → m.ended ≡ None

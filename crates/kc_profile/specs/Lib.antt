@@ -2,3 +2,8 @@ pub mod Spots
 pub mod Tally
 pub mod Passing
 pub mod Text
+pub mod Sights
+pub mod Spreads
+pub mod Waits
+pub mod Statistics
+pub mod StatisticsText

@@ -35,6 +35,16 @@ pub record IsTallyOf (spots : List Spot) (t : Tally) : Type 0 where
   pub each : (spot : Spot) → number_of t spot ≡ spent_at spot spots
   pub sum : total t ≡ length spots
 
+-- ---- several runs
+
+-- numbers added to others, each to its own
+unfoldable pub sums : List ℕ → List ℕ → List ℕ
+sums (n ∷ ns) (m ∷ ms) = (n + m) ∷ sums ns ms
+sums _ _ = []
+
+abbrev pub both : Tally → Tally → Tally
+both t later = record { at = sums t.at later.at; entries = sums t.entries later.entries; server = sums t.server later.server; idle = t.idle + later.idle }
+
 -- ---- the same as a value
 
 -- the numbers of the first so many spots of a kind

@@ -1,7 +1,7 @@
 // How many states go to each spot.
 ghost use Rattle.std.specs.Prelude.{◌≡◌, ◌+◌, ◌^◌, ◌<◌, List, [], ◌++◌, length, replicate, sum, slice_index, slice_set, IfOk};
 ghost use Rattle.kc_profile.specs.declared.spot.Spot as spots;
-ghost use Rattle.kc_profile.specs.Tally.{IsTallyOf, number_of, total};
+ghost use Rattle.kc_profile.specs.Tally.{IsTallyOf, both, number_of, sums, total};
 
 use crate::Spot;
 use kc_base::NoMemory;
@@ -40,6 +40,18 @@ fn raise(numbers: &mut [u64], index: usize, states: u64)
     numbers[index] += states;
 }
 
+// Adds numbers to others, each to its own.
+#[tactic(auto, using(crate::proofs::Added::added_sums))]
+fn raise_all(numbers: &mut [u64], more: &[u64])
+    requires same { length numbers.old ≡ length more.now }
+    requires fits { sum numbers.old + sum more.now < 2 ^ 64 }
+    ensures { numbers.new ≡ sums numbers.old more.now }
+{
+    for i in 0..numbers.len() {
+        numbers[i] += more[i];
+    }
+}
+
 fn no_numbers() -> [u64; 256]
     ensures { result ≡ replicate 256 0 }
 {
@@ -69,6 +81,27 @@ impl Profile {
             Spot::Server(number) => self.server[usize::from(number)],
             Spot::Idle => self.idle,
         }
+    }
+
+    /// Adds the states of another run.
+    pub fn add_all(&mut self, other: &Profile)
+        requires { total self.old + total other.now < 2 ^ 64 }
+        ensures total { total self.new ≡ total self.old + total other.now }
+        ensures tally { (before others : List spots.Spot) → IsTallyOf before self.old → IsTallyOf others other.now → IsTallyOf (before ++ others) self.new }
+    {
+        self.add_numbers(other);
+    }
+
+    // Adds the numbers of another profile.
+    fn add_numbers(&mut self, other: &Profile)
+        requires { total self.old + total other.now < 2 ^ 64 }
+        ensures numbers { self.new ≡ both self.old other.now }
+        ensures total { total self.new ≡ total self.old + total other.now }
+    {
+        raise_all(&mut self.at, &other.at);
+        raise_all(&mut self.entries, &other.entries);
+        raise_all(&mut self.server, &other.server);
+        self.idle += other.idle;
     }
 
     /// So many states more went to a spot.

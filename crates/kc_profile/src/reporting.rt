@@ -1,11 +1,13 @@
 // The text of a profile.
 ghost use Rattle.std.specs.Prelude.{◌≡◌, ◌+◌, ◌^◌, ◌<◌, ◌≤◌, ◌++◌, ◌&&◌, ◌==◌, codes, decimal, length, sum, IfOk, OnOk};
+ghost use Rattle.kc_profile.specs.StatisticsText.{statistics_text};
 ghost use Rattle.kc_profile.specs.Text as spec;
 
 use crate::Profile;
-use kc_base::NoMemory;
+use crate::statistics::Statistics;
+use crate::statistics_text::Scope;
+use kc_base::{NoMemory, put_number};
 use kc_debug_script::MapEntry;
-use kc_link::put_number;
 use kc_trace::address_text;
 use std::alloc::Global;
 
@@ -173,6 +175,21 @@ fn put_lines(text: &mut Vec<u8>, at: &[u64], entries: &[MapEntry]) -> Result<(),
         left = rest;
     }
     Ok(())
+}
+
+/// The text of a profile and of the statistics beside it.
+pub fn report(
+    alloc: Global,
+    profile: &Profile,
+    statistics: &Statistics,
+    entries: &[MapEntry],
+    scope: Scope,
+) -> Result<Vec<u8>, NoMemory>
+    ensures { IfOk result (λ text. text.items ≡ spec.profile_text profile.now entries.now ++ statistics_text scope statistics.now) }
+{
+    let mut text = profile.text(alloc, entries)?;
+    statistics.put(&mut text, scope)?;
+    Ok(text)
 }
 
 impl Profile {

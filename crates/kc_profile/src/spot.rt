@@ -10,7 +10,7 @@ pub enum Spot {
     At(u16),
     /// The entry through the vector of this number, below 16.
     Entry(u8),
-    /// The transfer server for the request of this number, below 15: the setup of a cycle, or a transfer.
+    /// The transfer server for the request of this number, below NMI: the setup of a cycle, or a transfer.
     Server(u8),
     /// No activity: the machine idles.
     Idle,

@@ -27,7 +27,9 @@ CompilerSet errorformat+=%-Gusage
 " A note, and behind it the line that it is about; where a macro has the fault, a second pair.
 CompilerSet errorformat+=%E%f:%l:\ error\ %m
 CompilerSet errorformat+=%I%f:%l:\ note:\ %m
+CompilerSet errorformat+=%E%f:%l:\ undefined\ use\ %m
 CompilerSet errorformat+=%Ekc96:\ error:\ %m
+CompilerSet errorformat+=%Ekc96:\ undefined\ use\ %m
 CompilerSet errorformat+=%Ekc96:\ error\ %m
 CompilerSet errorformat+=%Ikc96:\ note:\ %m
 CompilerSet errorformat+=%E%f:\ error:\ %m

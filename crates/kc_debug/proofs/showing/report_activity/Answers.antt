@@ -10,5 +10,5 @@ returns g c =
     let a = out_of g.S.Sink.written g.S.Sink.faults c.put_text.new.self in
     let b = out_of g.S.Sink.written g.S.Sink.faults c.report_place.new.out in
     let q = out_of g.S.Sink.written g.S.Sink.faults c.put_text-2.new.self in
-    let fields = subst (λ xs. Puts o xs a) (c.as_slice.ensures.value ∙ c.activity_fields.ensures) c.put_text.ensures.text in
+    let fields = subst (λ xs. Puts o xs a) (c.as_slice.ensures.value ∙ c.activity_fields.ensures.fields) c.put_text.ensures.text in
     Puts-append o _ b _ q (Puts-append o _ a _ b fields c.report_place.ensures) c.put_text-2.ensures.text

@@ -16,7 +16,7 @@ returns-in-Ok c =
     let given = given_in c.args.given in
     let texts = texts_in c.args.texts.now in
     board-widen (λ report. Placing names c.args.placing.now (Driven given FilledReported report) c.in-Ok.modules.items) (SourcesReported IsFaultDiagnostic names given c.args.placing.now texts) c.board_of_modules.result
-    (λ report r m. (Ok c.in-Ok.modules.items, c.in-Ok.ensures.made, linked-placing c.sources_are_read_well.ensures c.linked_image.ensures names given c.args.placing.now texts report c.in-Ok.modules.items r c.in-Ok.ensures.made m))
+    (λ report r m. (Ok c.in-Ok.modules.items, c.in-Ok.ensures.made, linked-placing c.sources_are_read_well.ensures c.linked_image.ensures names given c.args.placing.now texts (λ ms places. report) c.in-Ok.modules.items r c.in-Ok.ensures.made m))
     (rw c.deref.ensures.value at c.board_of_modules.ensures)
 
 pub returns-in-Err : goal.returns-in-Err

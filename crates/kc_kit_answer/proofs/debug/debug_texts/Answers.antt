@@ -15,7 +15,7 @@ returns-in-Err c =
     let debug = c.args.debug.now in
     let script : List ℕ × List ℕ = (debug.script.now, c.args.script.now) in
     let lines = input_for role.Lines (inputs_in debug.inputs) (texts_in c.args.inputs.now) in
-    subst (λ s. IsRefused (HexReported debug.file.now s c.args.text.now (debug_response script lines)) c.in-Err.refusal) c.given_for-given.ensures.given (c.in-Err.ensures (debug_response script lines))
+    subst (λ s. IsRefused (HexReported debug.file.now s c.args.text.now (debug_response script lines debug.lives)) c.in-Err.refusal) c.given_for-given.ensures.given (c.in-Err.ensures (debug_response script lines debug.lives))
 
 pub returns-in-Err-read_script : goal.returns-in-Err-read_script
 returns-in-Err-read_script c =
@@ -24,7 +24,7 @@ returns-in-Err-read_script c =
     let inputs = inputs_in debug.inputs in
     let texts = texts_in c.args.inputs.now in
     let board = c.in-Ok.board in
-    script-refused debug.file.now c.args.text.now (given_for inputs texts) script (input_for role.Lines inputs texts) board.driving board.image c.in-Err-read_script.refusal
+    script-refused debug.file.now c.args.text.now (given_for inputs texts) script (input_for role.Lines inputs texts) debug.lives board.driving board.image c.in-Err-read_script.refusal
     (subst (λ s. IsGivenBoard debug.file.now s c.args.text.now board.driving board.image) c.given_for-given.ensures.given c.in-Ok.ensures) c.in-Err-read_script.ensures.refusal
 
 pub returns-in-Ok-lines_in : goal.returns-in-Ok-lines_in
@@ -34,10 +34,10 @@ returns-in-Ok-lines_in c =
     let inputs = inputs_in debug.inputs in
     let texts = texts_in c.args.inputs.now in
     let board = c.in-Ok.board in (
-      script-carried debug.file.now c.args.text.now (given_for inputs texts) script (input_for role.Lines inputs texts) board.driving board.image c.in-Ok-read_script.script c.in-Ok-lines_in.lines
+      script-carried debug.file.now c.args.text.now (given_for inputs texts) script (input_for role.Lines inputs texts) debug.lives board.driving board.image c.in-Ok-read_script.script c.in-Ok-lines_in.lines
           (subst (λ s. IsGivenBoard debug.file.now s c.args.text.now board.driving board.image) c.given_for-given.ensures.given c.in-Ok.ensures) c.in-Ok-read_script.ensures.script
           (rw c.input_for.ensures.input at c.in-Ok-lines_in.ensures.lines),
-      tt,
+      c.requires.lives,
     )
 
 pub returns-in-Err-lines_in : goal.returns-in-Err-lines_in
@@ -47,6 +47,6 @@ returns-in-Err-lines_in c =
     let inputs = inputs_in debug.inputs in
     let texts = texts_in c.args.inputs.now in
     let board = c.in-Ok.board in
-    lines-refused debug.file.now c.args.text.now (given_for inputs texts) script (input_for role.Lines inputs texts) board.driving board.image c.in-Ok-read_script.script c.in-Err-lines_in.refusal
+    lines-refused debug.file.now c.args.text.now (given_for inputs texts) script (input_for role.Lines inputs texts) debug.lives board.driving board.image c.in-Ok-read_script.script c.in-Err-lines_in.refusal
     (subst (λ s. IsGivenBoard debug.file.now s c.args.text.now board.driving board.image) c.given_for-given.ensures.given c.in-Ok.ensures) c.in-Ok-read_script.ensures.script
     (rw c.input_for.ensures.input at c.in-Err-lines_in.ensures.refusal)

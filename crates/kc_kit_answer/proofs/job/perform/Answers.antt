@@ -3,36 +3,38 @@ use Rattle.kc_code.specs.Listing.{listing}
 use Rattle.kc_kit_files.specs.declared.status.Status.TheVariants as status
 use Rattle.kc_kit_files.specs.Response.{Response, says, reports}
 use Rattle.kc_kit_files.specs.Outside.{kept, shown}
-use Rattle.kc_kit_running.specs.Scripted.{debugged_by, script_response}
+use Rattle.kc_kit_words.specs.Asked.{behind_in}
+use Rattle.kc_kit_running.specs.Scripted.{debugger_response}
+use Rattle.kc_kit_running.specs.Sources.{lines_in}
 use Rattle.kc_kit_running.specs.Writing.{written}
 use Rattle.kc_kit_answer.specs.Jobs.{does, maybe_written, status_of}
 use Rattle.kc_kit_running.specs.Counted.{summary_of}
 use Rattle.kc_kit_running.specs.Lives.{board_response}
-use Rattle.kc_kit_running.specs.Profiled.{profile_response}
+use Rattle.kc_kit_running.specs.Profiled.{known, profile_response}
 use Rattle.kc_kit_files.proofs.EndLemmas.{Ends-widen}
-use Rattle.kc_kit_answer.proofs.EndedLemmas.{board-printed, ends-printed}
+use Rattle.kc_kit_answer.proofs.EndedLemmas.{ends-printed}
 use Rattle.kc_kit_answer.proofs.WriteLemmas.{ends-written}
 use Rattle.kc_kit_answer.proofs.job.perform.Goals as goal
 
 pub returns-in-Run-clause-answer : goal.returns-in-Run-clause-answer
 returns-in-Run-clause-answer g c =
-    ends-printed (board_response c.in-Run.extent c.in-Run.board.driving c.in-Run.board.image) c.args.job _ _ c.by.result c.run_board-status.result _ _ (board-printed c.in-Run.extent c.in-Run.board.driving c.in-Run.board.image) (sym (ap does c.in-Run.is)) c.by.ensures.status c.by.ensures.said
-    (c.run_board-status.ensures (kept (g.F.Files.held c.args.files.now) (g.F.Files.write_faults c.args.files.now)))
+    Ends-widen (λ (response : Response). response ≡ board_response (lines_in c.in-Run.sources) c.in-Run.extent c.in-Run.board.driving c.in-Run.board.image) (λ (response : Response). response ≡ does c.args.job) _ _
+    c.run_board.result.status c.run_board.result.said _ _ (λ r k. k ∙ sym (ap does c.in-Run.is)) (c.run_board.ensures (kept (g.F.Files.held c.args.files.now) (g.F.Files.write_faults c.args.files.now)))
 
 pub returns-in-Count-clause-answer : goal.returns-in-Count-clause-answer
 returns-in-Count-clause-answer g c =
-    ends-printed (summary_of c.in-Count.number c.in-Count.board.driving c.in-Count.board.image) c.args.job _ _ c.by-in-Count.result c.count_board-status.result _ _ (record { none = refl; silent = refl }) (sym (ap does c.in-Count.is)) c.by-in-Count.ensures.status c.by-in-Count.ensures.said
-    (c.count_board-status.ensures (kept (g.F.Files.held c.args.files.now) (g.F.Files.write_faults c.args.files.now)))
+    Ends-widen (λ (response : Response). response ≡ summary_of c.in-Count.number c.in-Count.board.driving c.in-Count.board.image) (λ (response : Response). response ≡ does c.args.job) _ _
+    c.count_board.result.status c.count_board.result.said _ _ (λ r k. k ∙ sym (ap does c.in-Count.is)) (c.count_board.ensures (kept (g.F.Files.held c.args.files.now) (g.F.Files.write_faults c.args.files.now)))
 
 pub returns-in-List-clause-answer : goal.returns-in-List-clause-answer
 returns-in-List-clause-answer g c =
-    ends-printed (says status.Done (listing c.in-List.image c.in-List.first c.in-List.last)) c.args.job _ _ c.by-in-List.result c.list_image.result _ _ (record { none = refl; silent = refl }) (sym (ap does c.in-List.is)) c.by-in-List.ensures.status c.by-in-List.ensures.said
+    ends-printed (says status.Done (listing c.in-List.image c.in-List.first c.in-List.last)) c.args.job _ _ c.by.result c.list_image.result _ _ (record { none = refl; silent = refl }) (sym (ap does c.in-List.is)) c.by.ensures.status c.by.ensures.said
     (c.list_image.ensures (kept (g.F.Files.held c.args.files.now) (g.F.Files.write_faults c.args.files.now)))
 
 pub returns-in-Debug-clause-answer : goal.returns-in-Debug-clause-answer
 returns-in-Debug-clause-answer g c =
-    ends-printed (script_response (debugged_by c.in-Debug.lines c.in-Debug.script c.in-Debug.board.driving c.in-Debug.board.image)) c.args.job _ _ c.by-in-Debug.result c.debug_board-status.result _ _ (record { none = refl; silent = refl }) (sym (ap does c.in-Debug.is)) c.by-in-Debug.ensures.status c.by-in-Debug.ensures.said
-    (c.debug_board-status.ensures (kept (g.F.Files.held c.args.files.now) (g.F.Files.write_faults c.args.files.now)))
+    Ends-widen (λ (response : Response). response ≡ debugger_response c.in-Debug.lives c.in-Debug.lines c.in-Debug.script c.in-Debug.board.driving c.in-Debug.board.image) (λ (response : Response). response ≡ does c.args.job) _ _
+    c.debug_board.result.status c.debug_board.result.said _ _ (λ r k. k ∙ sym (ap does c.in-Debug.is)) (c.debug_board.ensures (kept (g.F.Files.held c.args.files.now) (g.F.Files.write_faults c.args.files.now)))
 
 pub returns-in-Report-clause-answer : goal.returns-in-Report-clause-answer
 returns-in-Report-clause-answer g c =
@@ -48,5 +50,5 @@ returns-in-Write-clause-answer g c =
 
 pub returns-in-Profile-clause-answer : goal.returns-in-Profile-clause-answer
 returns-in-Profile-clause-answer g c =
-    Ends-widen (λ (response : Response). response ≡ profile_response c.in-Profile.states c.in-Profile.name.now c.in-Profile.entries.items c.in-Profile.board.driving c.in-Profile.board.image) (λ (response : Response). response ≡ does c.args.job) _ _
-    c.profile_board.result.status c.profile_board.result.said _ _ (λ r k. k ∙ sym (ap does c.in-Profile.is)) (rw c.deref.ensures.value at c.profile_board.ensures.response)
+    Ends-widen (λ (response : Response). response ≡ profile_response c.in-Profile.extent (behind_in c.in-Profile.behind) (known c.in-Profile.lines) c.in-Profile.board.driving c.in-Profile.board.image) (λ (response : Response). response ≡ does c.args.job) _ _
+    c.profile_board.result.status c.profile_board.result.said _ _ (λ r k. k ∙ sym (ap does c.in-Profile.is)) c.profile_board.ensures.response

@@ -14,9 +14,9 @@ returns-in-Ok c =
     let names = map string_bytes c.args.names.now in
     let given = given_in c.args.given in
     let texts = texts_in c.args.texts.now in
-    lines-widen (λ report. Placing names c.args.placing.now (DrivenWithLines given FilledWithLines report) c.in-Ok.modules.items) (LinesReported IsFaultDiagnostic names given c.args.placing.now texts) c.linked.result
+    lines-widen (λ report. Placing names c.args.placing.now (DrivenWithLines given (FilledWithLines names texts) report) c.in-Ok.modules.items) (LinesReported IsFaultDiagnostic names given c.args.placing.now texts) c.linked.result
     (λ report r m. (Ok c.in-Ok.modules.items, c.in-Ok.ensures.made, lines-linked c.sources_are_read_well.ensures c.linked_image.ensures names given c.args.placing.now texts report c.in-Ok.modules.items r c.in-Ok.ensures.made m))
-    (rw c.deref.ensures.value at c.linked.ensures)
+    c.linked.ensures
 
 pub returns-in-Err : goal.returns-in-Err
 returns-in-Err c =

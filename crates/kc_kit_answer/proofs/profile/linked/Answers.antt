@@ -1,5 +1,6 @@
 use Rattle.std.proofs.Common.{map, string_bytes}
 use Rattle.kc_kit_inputs.specs.Driving.{given_in}
+use Rattle.kc_kit_messages.proofs.Words.{texts_in}
 use Rattle.kc_kit_answer.specs.Places.{Placing}
 use Rattle.kc_kit_answer.specs.Profile.{DrivenWithLines, FilledWithLines}
 use Rattle.kc_kit_answer.proofs.LinesLemmas.{lines-widen}
@@ -12,12 +13,16 @@ linked_at-requires-clause-placed c = record { ranges = c.args.placing.now; in_bo
 pub returns-in-Ok : goal.returns-in-Ok
 returns-in-Ok c =
     let names = map string_bytes c.args.names.now in
+    let texts = texts_in c.args.texts.now in
     let given = given_in c.args.given in
     let ranges = c.args.placing.now in
-    let ms = c.args.modules.now in
+    let ms = c.args.modules.items in
     let places = c.in-Ok.placement.places in
-    lines-widen (λ report. DrivenWithLines given FilledWithLines report ms places) (λ report. Placing names ranges (DrivenWithLines given FilledWithLines report) ms) c.linked_at.result
-    (λ report r m. placing-ok names ranges (DrivenWithLines given FilledWithLines report) ms places r c.in-Ok.ensures.0 m) c.linked_at.ensures
+    lines-widen (λ report. DrivenWithLines given (FilledWithLines names texts) report ms places) (λ report. Placing names ranges (DrivenWithLines given (FilledWithLines names texts) report) ms) c.linked_at.result
+    (λ report r m. placing-ok names ranges (DrivenWithLines given (FilledWithLines names texts) report) ms places r c.in-Ok.ensures.0 m) c.linked_at.ensures
 
 pub returns-in-Err : goal.returns-in-Err
-returns-in-Err c = λ report. placing-refused (map string_bytes c.args.names.now) c.args.placing.now (DrivenWithLines (given_in c.args.given) FilledWithLines report) c.args.modules.now c.in-Err.refusal c.in-Err.ensures
+returns-in-Err c = λ report.
+    let names = map string_bytes c.args.names.now in
+    let texts = texts_in c.args.texts.now in
+    placing-refused names c.args.placing.now (DrivenWithLines (given_in c.args.given) (FilledWithLines names texts) report) c.args.modules.items c.in-Err.refusal c.in-Err.ensures

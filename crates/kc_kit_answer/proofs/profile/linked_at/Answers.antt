@@ -1,19 +1,31 @@
-use Rattle.std.proofs.Common.{map, sym, subst, List}
-use Rattle.kc_debug_script.specs.declared.line_map.MapEntry.{MapEntry}
-use Rattle.kc_kit_inputs.specs.Driving.{given_in}
-use Rattle.kc_kit_answer.specs.Profile.{map_entry, DrivenWithLines, FilledWithLines}
-use Rattle.kc_kit_answer.proofs.LinesLemmas.{lines-filled, refused-with-lines}
+use Rattle.std.proofs.Common.{◌≡◌, map, string_bytes, Err, refl}
+use Rattle.kc_kit_files.proofs.ReadLemmas.{refused-widen}
+use Rattle.kc_kit_inputs.specs.Driving.{given_in, driving_of}
+use Rattle.kc_kit_messages.proofs.Words.{texts_in}
+use Rattle.kc_kit_running.specs.Profiled.{known}
+use Rattle.kc_kit_answer.specs.Profile.{FilledWithLines, DrivenWithLines}
+use Rattle.kc_kit_answer.proofs.AnswerSteps.{then-ok, then-err}
 use Rattle.kc_kit_answer.proofs.profile.linked_at.Goals as goal
 
-pub returns-in-Err : goal.returns-in-Err
-returns-in-Err c = refused-with-lines (given_in c.args.given) c.args.modules.now c.args.placement.now.places c.in-Err.refusal c.in-Err.ensures
+pub returns-in-Ok-driving_in : goal.returns-in-Ok-driving_in
+returns-in-Ok-driving_in c = (
+  c.in-Ok-lines_of.ensures.placed,
+  λ report.
+      let names = map string_bytes c.args.names.now in
+      let texts = texts_in c.args.texts.now in
+      let ms = c.args.modules.items in
+      let places = c.args.placement.places in
+      let k = known c.in-Ok-lines_of.lines in
+      then-ok (driving_of (given_in c.args.given)) c.in-Ok-driving_in.driving (λ driving. FilledWithLines names texts (λ k. report k driving) ms places) (report k c.in-Ok-driving_in.driving c.in-Ok.image) c.in-Ok-driving_in.ensures.driving
+      (record { image = c.in-Ok.image; is_filled = c.in-Ok.ensures; known = k; are_lines = c.in-Ok-lines_of.ensures.lines; reported = refl }),
+)
 
-pub returns-in-Ok-entries_at : goal.returns-in-Ok-entries_at
-returns-in-Ok-entries_at c = λ report.
+pub returns-in-Err-driving_in : goal.returns-in-Err-driving_in
+returns-in-Err-driving_in c = λ report.
+    let names = map string_bytes c.args.names.now in
+    let texts = texts_in c.args.texts.now in
+    let ms = c.args.modules.items in
+    let places = c.args.placement.places in
     let given = given_in c.args.given in
-    let ms = c.args.modules.now in
-    let places = c.args.placement.now.places in
-    let board = c.in-Ok.board in
-    let are = c.in-Ok-entries_at.ensures in
-    subst (λ (es : List MapEntry). DrivenWithLines given FilledWithLines report ms places (report es board.driving board.image)) (sym are.2)
-    (lines-filled given report ms places are.0 (report (map map_entry are.0) board.driving board.image) are.1 (c.in-Ok.ensures (report (map map_entry are.0))))
+    refused-widen (λ response. driving_of given ≡ Err response) (DrivenWithLines given (FilledWithLines names texts) report ms places) c.in-Err-driving_in.refusal
+    (λ r e. then-err (driving_of given) (λ driving. FilledWithLines names texts (λ k. report k driving) ms places) r e) c.in-Err-driving_in.ensures.refusal

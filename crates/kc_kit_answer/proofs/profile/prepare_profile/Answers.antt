@@ -1,6 +1,7 @@
 use Rattle.std.proofs.Common.{Some, refl, map, string_bytes, length, arith}
 use Rattle.kc_base.specs.Causes.{Rose}
 use Rattle.kc_kit_files.proofs.ReadLemmas.{stays-onward}
+use Rattle.kc_kit_words.specs.Asked.{behind_in}
 use Rattle.kc_kit_words.specs.Inputs.{inputs_in}
 use Rattle.kc_kit_words.specs.Commands.{Profiles, names_of}
 use Rattle.kc_kit_inputs.specs.FaultDiagnostics.{IsFaultDiagnostic}
@@ -17,7 +18,7 @@ returns-in-Err g c =
     let inputs = inputs_in run.inputs in
     let rose : Type 0 = Rose (g.F.Files.read_faults c.args.files.now) (g.F.Files.read_faults c.read_files.new.files) in
     record {
-      answer = first-missed names (names_of inputs) (Parted (length names) (ProfileAnswer IsFaultDiagnostic names inputs run.states run.placing run.out.now)) (g.F.Files.held c.args.files.now) rose c.in-Err.refusal c.in-Err.ensures.read;
+      answer = first-missed names (names_of inputs) (Parted (length names) (ProfileAnswer IsFaultDiagnostic names inputs run.extent run.placing (behind_in run.behind))) (g.F.Files.held c.args.files.now) rose c.in-Err.refusal c.in-Err.ensures.read;
       only_read = c.read_files.ensures.stays;
     }
 
@@ -31,8 +32,8 @@ returns-in-Ok-read_inputs g c =
     let reported = g.F.Files.held c.args.files.now in
     let rose : Type 0 = Rose (g.F.Files.read_faults c.args.files.now) (g.F.Files.read_faults c.read_inputs.new.files) in
     record {
-      answer = prepared-widen (ProfileAnswer IsFaultDiagnostic names inputs run.states run.placing run.out.now texts more) (MayAnswer IsFaultDiagnostic (Some (Profiles names inputs run.states run.placing run.out.now)) reported rose) c.profile_texts.result
-          (λ r m. parts-then names (names_of inputs) (length names) (ProfileAnswer IsFaultDiagnostic names inputs run.states run.placing run.out.now) reported (g.F.Files.held c.read_files.new.files) rose texts more r c.read_files.ensures.stays.same refl
+      answer = prepared-widen (ProfileAnswer IsFaultDiagnostic names inputs run.extent run.placing (behind_in run.behind) texts more) (MayAnswer IsFaultDiagnostic (Some (Profiles names inputs run.extent run.placing (behind_in run.behind))) reported rose) c.profile_texts.result
+          (λ r m. parts-then names (names_of inputs) (length names) (ProfileAnswer IsFaultDiagnostic names inputs run.extent run.placing (behind_in run.behind)) reported (g.F.Files.held c.read_files.new.files) rose texts more r c.read_files.ensures.stays.same refl
           c.in-Ok.ensures.read c.in-Ok-read_inputs.ensures.read m)
           (rw (c.deref.ensures.value, c.deref-in-Ok-read_inputs.ensures.value) at c.profile_texts.ensures);
       only_read = stays-onward g.F.Files.held g.F.Files.read_faults g.F.Files.write_faults _ _ _ c.read_files.ensures.stays c.read_inputs.ensures.stays;
@@ -47,7 +48,7 @@ returns g c =
     let rose : Type 0 = Rose (g.F.Files.read_faults c.read_files.new.files) (g.F.Files.read_faults c.read_inputs.new.files) in
     let later : Type 0 = Rose (g.F.Files.read_faults c.args.files.now) (g.F.Files.read_faults c.read_inputs.new.files) in
     record {
-      answer = second-missed names (names_of inputs) (texts_in c.in-Ok.texts.items) (Parted (length names) (ProfileAnswer IsFaultDiagnostic names inputs run.states run.placing run.out.now)) reported (g.F.Files.held c.read_files.new.files) rose later c.in-Err-read_inputs.refusal
+      answer = second-missed names (names_of inputs) (texts_in c.in-Ok.texts.items) (Parted (length names) (ProfileAnswer IsFaultDiagnostic names inputs run.extent run.placing (behind_in run.behind))) reported (g.F.Files.held c.read_files.new.files) rose later c.in-Err-read_inputs.refusal
           c.read_files.ensures.stays.same c.in-Ok.ensures.read (λ r. omega (arith, r, c.read_files.ensures.stays.later)) c.in-Err-read_inputs.ensures.read;
       only_read = stays-onward g.F.Files.held g.F.Files.read_faults g.F.Files.write_faults _ _ _ c.read_files.ensures.stays c.read_inputs.ensures.stays;
     }

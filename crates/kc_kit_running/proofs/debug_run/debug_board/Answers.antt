@@ -1,29 +1,21 @@
-use Rattle.std.proofs.Common.{◌≡◌, refl, subst}
-use Rattle.kc_debug.specs.Transcript.{Debugged}
-use Rattle.kc_kit_files.specs.declared.status.Status.TheVariants as status
+use Rattle.std.proofs.Common.{◌≡◌, ◌≤◌, ◌∙◌, ℕ, Option, ap, sym, subst}
+use Rattle.std.specs.Prelude.{IfSome}
 use Rattle.kc_kit_files.specs.Response.{Response}
-use Rattle.kc_kit_files.specs.Outside.{Responses, shown}
-use Rattle.kc_kit_running.specs.Scripted.{debugged_by, script_response}
-use Rattle.kc_kit_running.specs.Fitted.{FittedUnit}
-use Rattle.kc_kit_running.proofs.ScriptLemmas.{carried, carried-start, script-whole, script-part}
+use Rattle.kc_kit_files.proofs.EndLemmas.{Ends-widen}
+use Rattle.kc_kit_running.specs.Scripted.{debugged_by, debugged_in_lives, debugger_response, lives_script_response, script_response}
 use Rattle.kc_kit_running.proofs.debug_run.debug_board.Goals as goal
 
-pub returns-in-Ok-run_script : goal.returns-in-Ok-run_script
-returns-in-Ok-run_script g c = λ files.
-    let board = c.args.board in
-    let d : Debugged FittedUnit = carried c.in-Ok-with_lines.session c.args.script.now c.in-Ok.machine.machine in
-    let same : d ≡ debugged_by c.args.lines c.args.script.now board.driving board.image =
-    carried-start c.in-Ok-with_lines.session c.args.lines c.args.script.now c.in-Ok.machine.machine board.driving board.image c.in-Ok-with_lines.ensures.lines
-    c.in-Ok.ensures in
-    subst (λ (d : Debugged FittedUnit). Responses (λ (response : Response). response ≡ script_response d) files (shown (g.S.Sink.written c.args.out.now.sink) (g.S.Sink.faults c.args.out.now.sink)) c.status_of.result files (shown (g.S.Sink.written c.run_script.new.out.sink) (g.S.Sink.faults c.run_script.new.out.sink))) same
-    (rw c.status_of.ensures (script-whole d (λ (response : Response). response ≡ script_response d) files _ _ c.in-Ok-run_script.end refl c.in-Ok-run_script.ensures.end (c.run_script.ensures.text.whole c.in-Ok-run_script.ensures.written)))
+pub debug_in_lives-requires-clause-some : goal.debug_in_lives-requires-clause-some
+debug_in_lives-requires-clause-some g c = subst (λ (o : Option ℕ). IfSome o (λ n. 1 ≤ n)) c.in-Some.is c.requires.lives.some
 
-pub returns : goal.returns
-returns g c = λ files.
+pub returns-in-None : goal.returns-in-None
+returns-in-None g c = λ files.
     let board = c.args.board in
-    let d : Debugged FittedUnit = carried c.in-Ok-with_lines.session c.args.script.now c.in-Ok.machine.machine in
-    let same : d ≡ debugged_by c.args.lines c.args.script.now board.driving board.image =
-    carried-start c.in-Ok-with_lines.session c.args.lines c.args.script.now c.in-Ok.machine.machine board.driving board.image c.in-Ok-with_lines.ensures.lines
-    c.in-Ok.ensures in
-    subst (λ (d : Debugged FittedUnit). Responses (λ (response : Response). response ≡ script_response d) files (shown (g.S.Sink.written c.args.out.now.sink) (g.S.Sink.faults c.args.out.now.sink)) status.WriteFault files (shown (g.S.Sink.written c.run_script.new.out.sink) (g.S.Sink.faults c.run_script.new.out.sink))) same
-    (script-part d (λ (response : Response). response ≡ script_response d) files _ _ refl c.run_script.ensures.text.part (c.run_script.ensures.text.cause c.requires.ready c.in-Err.ensures.failed))
+    Ends-widen (λ (response : Response). response ≡ script_response (debugged_by c.args.lines c.args.script.now board.driving board.image)) (λ (response : Response). response ≡ debugger_response c.args.lives c.args.lines c.args.script.now board.driving board.image) _ _
+    c.debug_once.result.status c.debug_once.result.said _ _ (λ r e. e ∙ sym (ap (λ (lives : Option ℕ). debugger_response lives c.args.lines c.args.script.now board.driving board.image) c.in-None.is)) (c.debug_once.ensures files)
+
+pub returns-in-Some : goal.returns-in-Some
+returns-in-Some g c = λ files.
+    let board = c.args.board in
+    Ends-widen (λ (response : Response). response ≡ lives_script_response (debugged_in_lives c.in-Some.most c.args.lines c.args.script.now board.driving board.image)) (λ (response : Response). response ≡ debugger_response c.args.lives c.args.lines c.args.script.now board.driving board.image) _ _
+    c.debug_in_lives.result.status c.debug_in_lives.result.said _ _ (λ r e. e ∙ sym (ap (λ (lives : Option ℕ). debugger_response lives c.args.lines c.args.script.now board.driving board.image) c.in-Some.is)) (c.debug_in_lives.ensures files)

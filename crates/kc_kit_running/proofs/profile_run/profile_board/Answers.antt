@@ -1,50 +1,49 @@
-use Rattle.std.proofs.Common.{◌∙◌, ◌-◌, ap, sym}
-use Rattle.kc_machine_spec.specs.Machine.{Machine, Stepped}
-use Rattle.kc_machine_spec.specs.Run.{run_to, end_of}
-use Rattle.kc_kit_files.specs.declared.status.Status.TheVariants as status
-use Rattle.kc_kit_running.specs.Fitted.{FittedUnit, fitted_further}
-use Rattle.kc_kit_running.proofs.ProfileLemmas.{profile-is, counted-whole, counted-part, counted-short}
-use Rattle.kc_kit_running.proofs.RunLemmas.{HasRun-start, Puts-trace, GrewByPart-trace}
+use Rattle.std.proofs.Common.{◌≡◌, ◌∙◌, Result, Err, refl, ap, subst}
+use Rattle.std.specs.Prelude.{IfErr}
+use Rattle.kc_trace.specs.Trace.{out_of}
+use Rattle.kc_cycles.specs.declared.lives.LivesFault.{LivesFault}
+use Rattle.kc_kit_files.specs.Response.{Response}
+use Rattle.kc_kit_files.specs.Outside.{kept, shown}
+use Rattle.kc_kit_words.specs.Asked.{behind_in}
+use Rattle.kc_kit_running.specs.declared.accounts.Watched.{Watched}
+use Rattle.kc_kit_running.specs.Passing.{HasFailed}
+use Rattle.kc_kit_running.specs.Profiled.{known, profiled, run_over}
+use Rattle.kc_kit_running.proofs.ProfileLemmas.{profiled-finished, profiled-broken, profiled-paused}
 use Rattle.kc_kit_running.proofs.profile_run.profile_board.Goals as goal
 
-pub write_finals-requires-clause-ran : goal.write_finals-requires-clause-ran
-write_finals-requires-clause-ran g c =
-    HasRun-start c.args.states c.args.board.driving c.args.board.image c.run_profiled.new.machine.machine c.in-Ok-run_profiled.end
-    (c.in-Ok-run_profiled.ensures.machine ∙ ap (λ (m : Machine FittedUnit). (run_to fitted_further c.args.states m).machine) c.in-Ok-fitted_machine.ensures)
-    (c.in-Ok-run_profiled.ensures.end ∙ ap end_of (sym c.in-Ok-run_profiled.ensures.machine))
+pub returns-in-Ok-clause-response : goal.returns-in-Ok-clause-response
+returns-in-Ok-clause-response g c =
+    let board = c.args.board in
+    let behind = behind_in c.args.behind in
+    let k = known c.args.lines.now in
+    let run = run_over c.args.extent.lives c.args.extent.states k board.driving board.image in
+    let old = kept (g.F.Files.held c.args.files.now) (g.F.Files.write_faults c.args.files.now) in
+    let new = kept (g.F.Files.held c.finish.new.files) (g.F.Files.write_faults c.finish.new.files) in
+    let before = shown (g.S.Sink.written c.args.out.now.sink) (g.S.Sink.faults c.args.out.now.sink) in
+    let now = shown (g.S.Sink.written c.watch.new.out.sink) (g.S.Sink.faults c.watch.new.out.sink) in
+    let passed = c.in-Ok.ensures.passed in
+    profiled-finished behind k run (λ (response : Response). response ≡ profiled behind k run) old new before now c.finish.result refl c.in-Ok.watched.how _ passed.how passed.texts c.finish.ensures.finished (passed.lines.whole passed.written)
 
-pub returns-in_default-run_profiled-clause-response : goal.returns-in_default-run_profiled-clause-response
-returns-in_default-run_profiled-clause-response g c =
-    let m = c.in-Ok-fitted_machine.machine.machine in
-    let ran : Stepped FittedUnit = run_to fitted_further c.args.states m in
-    counted-short c.args.states c.args.target.name.now c.args.entries.now c.args.board.driving c.args.board.image m _ _ _ c.by-in_default-run_profiled.result c.in-Ok-fitted_machine.ensures c.by-in_default-run_profiled.ensures.status c.by-in_default-run_profiled.ensures.said
-    (GrewByPart-trace ran (g.S.Sink.written c.args.out.now.sink) (g.S.Sink.written c.run_profiled.new.out.sink) c.run_profiled.ensures.lines.part) (c.run_profiled.ensures.lines.cause c.requires.ready c.in_default-run_profiled.ensures.fails.failed)
+pub returns-in-Err-WriteFault-clause-response : goal.returns-in-Err-WriteFault-clause-response
+returns-in-Err-WriteFault-clause-response g c =
+    let board = c.args.board in
+    let behind = behind_in c.args.behind in
+    let k = known c.args.lines.now in
+    let run = run_over c.args.extent.lives c.args.extent.states k board.driving board.image in
+    let files = kept (g.F.Files.held c.args.files.now) (g.F.Files.write_faults c.args.files.now) in
+    let old = out_of g.S.Sink.written g.S.Sink.faults c.args.out.now in
+    let new = out_of g.S.Sink.written g.S.Sink.faults c.watch.new.out in
+    profiled-broken behind k run (λ (response : Response). response ≡ profiled behind k run) files old new c.by.result refl
+    (subst (λ (r : Result Watched LivesFault). IfErr r (λ f. HasFailed run old f new)) (c.in-Err-WriteFault.is ∙ ap Err c.in-Err-WriteFault.field-0-is) c.watch.ensures.failed) c.requires.ready c.by.ensures.status c.by.ensures.said
 
 pub returns-clause-response : goal.returns-clause-response
 returns-clause-response g c =
-    let m = c.in-Ok-fitted_machine.machine.machine in
-    let ran : Stepped FittedUnit = run_to fitted_further c.args.states m in
-    let lines = Puts-trace ran _ _ _ c.in-Ok-run_profiled.end c.run_profiled.new.machine.machine c.in-Ok-run_profiled.ensures.end c.in-Ok-run_profiled.ensures.machine c.run_profiled.ensures.lines c.write_finals.ensures.lines in
-    counted-short c.args.states c.args.target.name.now c.args.entries.now c.args.board.driving c.args.board.image m _ _ _ c.by-in-Err.result c.in-Ok-fitted_machine.ensures c.by-in-Err.ensures.status c.by-in-Err.ensures.said
-    lines.part (lines.cause c.requires.ready c.in-Err.ensures.failed)
-
-pub returns-in-Done-clause-response : goal.returns-in-Done-clause-response
-returns-in-Done-clause-response g c =
-    let m = c.in-Ok-fitted_machine.machine.machine in
-    let ran : Stepped FittedUnit = run_to fitted_further c.args.states m in
-    let lines = Puts-trace ran _ _ _ c.in-Ok-run_profiled.end c.run_profiled.new.machine.machine c.in-Ok-run_profiled.ensures.end c.in-Ok-run_profiled.ensures.machine c.run_profiled.ensures.lines c.write_finals.ensures.lines in
-    counted-whole c.args.states c.args.target.name.now c.args.entries.now c.args.board.driving c.args.board.image m c.run_profiled.new.profile _ _ _ _ c.in-Ok-run_profiled.end c.write_profile-wrote.result c.by-in-Done.result c.in-Ok-fitted_machine.ensures c.in-Ok-run_profiled.ensures.end
-    (profile-is c.args.states (c.run_profiled.new.machine.machine.time - m.time) m c.in-Ok.profile c.run_profiled.new.profile c.args.entries.now (ap (λ (k : Machine FittedUnit). k.time) c.in-Ok-fitted_machine.ensures) c.in-Ok.ensures c.run_profiled.ensures.profile c.in-Ok-run_profiled.ensures.all)
-    c.in-Done.is (c.by-in-Done.ensures.status ∙ c.status_of.ensures) c.by-in-Done.ensures.said (lines.whole c.in-Ok-write_finals.ensures.written) c.write_profile-wrote.ensures.written
-
-pub returns-in-Ok-write_finals : goal.returns-in-Ok-write_finals
-returns-in-Ok-write_finals g c =
-    let m = c.in-Ok-fitted_machine.machine.machine in
-    let ran : Stepped FittedUnit = run_to fitted_further c.args.states m in
-    let lines = Puts-trace ran _ _ _ c.in-Ok-run_profiled.end c.run_profiled.new.machine.machine c.in-Ok-run_profiled.ensures.end c.in-Ok-run_profiled.ensures.machine c.run_profiled.ensures.lines c.write_finals.ensures.lines in
-    record {
-      response = counted-part c.args.states c.args.target.name.now c.args.entries.now c.args.board.driving c.args.board.image m c.run_profiled.new.profile _ _ _ _ c.in-Ok-run_profiled.end c.write_profile-wrote.result c.in-Ok-fitted_machine.ensures c.in-Ok-run_profiled.ensures.end
-          (profile-is c.args.states (c.run_profiled.new.machine.machine.time - m.time) m c.in-Ok.profile c.run_profiled.new.profile c.args.entries.now (ap (λ (k : Machine FittedUnit). k.time) c.in-Ok-fitted_machine.ensures) c.in-Ok.ensures c.run_profiled.ensures.profile c.in-Ok-run_profiled.ensures.all)
-          c.in_default-status.not-Done (lines.whole c.in-Ok-write_finals.ensures.written) c.write_profile-wrote.ensures.written;
-      no_read = c.write_profile-wrote.ensures.no_read;
-    }
+    let board = c.args.board in
+    let behind = behind_in c.args.behind in
+    let k = known c.args.lines.now in
+    let run = run_over c.args.extent.lives c.args.extent.states k board.driving board.image in
+    let files = kept (g.F.Files.held c.args.files.now) (g.F.Files.write_faults c.args.files.now) in
+    let old = out_of g.S.Sink.written g.S.Sink.faults c.args.out.now in
+    let new = out_of g.S.Sink.written g.S.Sink.faults c.watch.new.out in
+    profiled-paused behind k run (λ (response : Response). response ≡ profiled behind k run) files old new c.by-in-Err-NoMemory.result refl
+    (subst (λ (r : Result Watched LivesFault). IfErr r (λ f. HasFailed run old f new)) (c.in-Err-NoMemory.is ∙ ap Err c.in-Err-NoMemory.field-0-is) c.watch.ensures.failed) c.by-in-Err-NoMemory.ensures.status

@@ -1,7 +1,9 @@
 use Rattle.std.proofs.Common.{◌-◌, arith}
-use Rattle.kc_profile.proofs.Spotted.{lasts-idle, lives-idle, spots-idle}
+use Rattle.kc_block_spec.specs.Touch.{block_rule}
 use Rattle.kc_machine_spec.proofs.Calls.{on-fault}
+use Rattle.kc_profile.proofs.Alone.{alone-idle, none-answered, none-raised-last, quiet-for}
 use Rattle.kc_profile.proofs.Going.{fails-idle}
+use Rattle.kc_profile.proofs.Spotted.{idle-first, lasts-idle, lives-idle, spots-idle}
 use Rattle.kc_profile.proofs.running.rest.Goals as goal
 
 pub go_to-requires-clause-lives : goal.go_to-requires-clause-lives
@@ -12,9 +14,12 @@ go_to-requires-clause-lasts g c = lasts-idle g.X.Extra.further _ c.args.machine.
 
 pub returns : goal.returns
 returns g c =
+    let f = g.X.Extra.further in
     let m = c.args.machine.now.machine in
     let n = c.go_to.new.machine.machine in
     let went = c.go_to.ensures in
+    let first = idle-first f (c.args.stop - m.time) m c.requires.idles (omega (arith, c.requires.ahead)) in
+    let alone = alone-idle f (n.time - m.time) m first.0 first.1 (quiet-for (block_rule f) m.time (c.args.stop - m.time) (n.time - m.time - 1) m.board.units (omega (arith, went.within)) c.requires.quiet) in
     record {
       went = record {
         passed = record {
@@ -22,10 +27,13 @@ returns g c =
           within = omega (arith, went.within, c.requires.within);
           machine = went.machine;
           lines = went.lines;
-          spots = spots-idle g.X.Extra.further (c.args.stop - m.time) (n.time - m.time) m c.requires.idles (omega (arith, went.forward)) (omega (arith, went.within));
+          spots = spots-idle f (c.args.stop - m.time) (n.time - m.time) m c.requires.idles (omega (arith, went.forward)) (omega (arith, went.within));
         };
-        fails = on-fault c.go_to.result went.fails (fails-idle g.X.Extra.further c.args.stop c.args.until m _ n _ c.requires.idles c.requires.within went.within);
+        fails = on-fault c.go_to.result went.fails (fails-idle f c.args.stop c.args.until m _ n _ c.requires.idles c.requires.within went.within);
         costs = record { spent = went.spent; moves = went.moves };
         written = went.written;
       };
+      alone = alone;
+      raised = none-answered c.go_to.result _ went.none
+          (none-raised-last f (n.time - m.time) m (omega (arith, went.forward)) alone (quiet-for (block_rule f) m.time (c.args.stop - m.time) (n.time - m.time) m.board.units (omega (arith, went.within)) c.requires.quiet));
     }
