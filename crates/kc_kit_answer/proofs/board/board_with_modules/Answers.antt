@@ -19,16 +19,19 @@ returns-in-Err c = λ report.
     placing-refused names c.args.placing.now (λ ms places. Driven (given_in c.args.given) FilledReported (report (lines_of_files names ms places)) ms places) c.args.modules.items c.in-Err.refusal c.in-Err.ensures
 
 pub returns-in-Ok-board_at : goal.returns-in-Ok-board_at
-returns-in-Ok-board_at c = (c.sources_of.ensures.placed, λ report.
-    let names = map string_bytes c.args.files.now in
-    let given = given_in c.args.given in
-    let ranges = c.args.placing.now in
-    let ms = c.args.modules.items in
-    let places = c.in-Ok.placement.places in
-    let board = c.in-Ok-board_at.board in
-    let lines : FileLines = lines_of_files names ms places in
-    subst (λ (known : FileLines). Placing names ranges (λ ms places. Driven given FilledReported (report (lines_of_files names ms places)) ms places) ms (report known board.driving board.image)) (sym c.sources_of.ensures.lines)
-    (placing-ok names ranges (λ ms places. Driven given FilledReported (report (lines_of_files names ms places)) ms places) ms places (report lines board.driving board.image) c.in-Ok.ensures.0 (c.in-Ok-board_at.ensures (report lines))))
+returns-in-Ok-board_at c = (
+  c.sources_of.ensures.placed,
+  λ report.
+      let names = map string_bytes c.args.files.now in
+      let given = given_in c.args.given in
+      let ranges = c.args.placing.now in
+      let ms = c.args.modules.items in
+      let places = c.in-Ok.placement.places in
+      let board = c.in-Ok-board_at.board in
+      let lines : FileLines = lines_of_files names ms places in
+      subst (λ (known : FileLines). Placing names ranges (λ ms places. Driven given FilledReported (report (lines_of_files names ms places)) ms places) ms (report known board.driving board.image)) (sym c.sources_of.ensures.lines)
+      (placing-ok names ranges (λ ms places. Driven given FilledReported (report (lines_of_files names ms places)) ms places) ms places (report lines board.driving board.image) c.in-Ok.ensures.0 (c.in-Ok-board_at.ensures (report lines))),
+)
 
 pub returns-in-Err-board_at : goal.returns-in-Err-board_at
 returns-in-Err-board_at c = λ report.

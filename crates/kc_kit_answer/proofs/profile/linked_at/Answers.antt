@@ -8,14 +8,17 @@ use Rattle.kc_kit_answer.proofs.AnswerSteps.{then-ok, then-err}
 use Rattle.kc_kit_answer.proofs.profile.linked_at.Goals as goal
 
 pub returns-in-Ok-driving_in : goal.returns-in-Ok-driving_in
-returns-in-Ok-driving_in c = (c.in-Ok-lines_of.ensures.placed, λ report.
-    let names = map string_bytes c.args.names.now in
-    let texts = texts_in c.args.texts.now in
-    let ms = c.args.modules.items in
-    let places = c.args.placement.places in
-    let k = known c.in-Ok-lines_of.lines in
-    then-ok (driving_of (given_in c.args.given)) c.in-Ok-driving_in.driving (λ driving. FilledWithLines names texts (λ k. report k driving) ms places) (report k c.in-Ok-driving_in.driving c.in-Ok.image) c.in-Ok-driving_in.ensures.driving
-    (record { image = c.in-Ok.image; is_filled = c.in-Ok.ensures; known = k; are_lines = c.in-Ok-lines_of.ensures.lines; reported = refl }))
+returns-in-Ok-driving_in c = (
+  c.in-Ok-lines_of.ensures.placed,
+  λ report.
+      let names = map string_bytes c.args.names.now in
+      let texts = texts_in c.args.texts.now in
+      let ms = c.args.modules.items in
+      let places = c.args.placement.places in
+      let k = known c.in-Ok-lines_of.lines in
+      then-ok (driving_of (given_in c.args.given)) c.in-Ok-driving_in.driving (λ driving. FilledWithLines names texts (λ k. report k driving) ms places) (report k c.in-Ok-driving_in.driving c.in-Ok.image) c.in-Ok-driving_in.ensures.driving
+      (record { image = c.in-Ok.image; is_filled = c.in-Ok.ensures; known = k; are_lines = c.in-Ok-lines_of.ensures.lines; reported = refl }),
+)
 
 pub returns-in-Err-driving_in : goal.returns-in-Err-driving_in
 returns-in-Err-driving_in c = λ report.
