@@ -1,5 +1,6 @@
 pub mod AnswerSteps
 pub mod CheckLemmas
+pub mod CoverLemmas
 pub mod DebugLemmas
 pub mod DumpLemmas
 pub mod EndedLemmas
