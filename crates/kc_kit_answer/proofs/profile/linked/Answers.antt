@@ -29,8 +29,8 @@ returns-in-Ok c =
     lines-widen (λ report. DrivenWithLines given (FilledWithLines names texts) report ms places) (λ report. Placing names ranges (DrivenWithLines given (FilledWithLines names texts) report) ms) c.linked_at.result
     (λ report r m. placing-ok names ranges (DrivenWithLines given (FilledWithLines names texts) report) ms places r is.0 m) c.linked_at.ensures
 
-pub returns-in-Err : goal.returns-in-Err
-returns-in-Err c = λ report.
+pub returns : goal.returns
+returns c = λ report.
     let names = map string_bytes c.args.names.now in
     let texts = texts_in c.args.texts.now in
     let ranges = c.args.placing.now in

@@ -22,8 +22,8 @@ returns-in-Ok-driving_in c = (
       (record { image = c.in-Ok.image; is_filled = subst (λ (ms : List Object). IsFilled ms places c.in-Ok.image) c.deref.ensures.value c.in-Ok.ensures; known = k; are_lines = c.in-Ok-lines_of.ensures.lines; reported = refl }),
 )
 
-pub returns-in-Err-driving_in : goal.returns-in-Err-driving_in
-returns-in-Err-driving_in c = λ report.
+pub returns : goal.returns
+returns c = λ report.
     let names = map string_bytes c.args.names.now in
     let texts = texts_in c.args.texts.now in
     let ms = c.args.modules.items in
