@@ -32,18 +32,21 @@ returns-in-Err c = λ report.
     (subst (λ (ms : List Object). IsRefused (λ (response : Response). places_of names ms ranges ≡ Err response) c.in-Err.refusal) c.deref.ensures.value c.in-Err.ensures)
 
 pub returns-in-Ok-board_at : goal.returns-in-Ok-board_at
-returns-in-Ok-board_at c = (c.sources_of.ensures.placed, λ report.
-    let names = map string_bytes c.args.files.now in
-    let given = given_in c.args.given in
-    let ranges = c.args.placing.now in
-    let ms = c.args.modules.items in
-    let places = c.in-Ok.placement.places in
-    let board = c.in-Ok-board_at.board in
-    let lines : FileLines = lines_of_files names ms places in
-    let is = subst (λ (ms : List Object). IsPlacement ms (placed ms ranges) c.in-Ok.placement) c.deref.ensures.value c.in-Ok.ensures in
-    let driven = subst (λ (ms : List Object). Driven given FilledReported (report lines) ms places (report lines board.driving board.image)) c.deref-2.ensures.value (c.in-Ok-board_at.ensures (report lines)) in
-    subst (λ (known : FileLines). Placing names ranges (λ ms places. Driven given FilledReported (report (lines_of_files names ms places)) ms places) ms (report known board.driving board.image)) (sym c.sources_of.ensures.lines)
-    (placing-ok names ranges (λ ms places. Driven given FilledReported (report (lines_of_files names ms places)) ms places) ms places (report lines board.driving board.image) is.0 driven))
+returns-in-Ok-board_at c = (
+  c.sources_of.ensures.placed,
+  λ report.
+      let names = map string_bytes c.args.files.now in
+      let given = given_in c.args.given in
+      let ranges = c.args.placing.now in
+      let ms = c.args.modules.items in
+      let places = c.in-Ok.placement.places in
+      let board = c.in-Ok-board_at.board in
+      let lines : FileLines = lines_of_files names ms places in
+      let is = subst (λ (ms : List Object). IsPlacement ms (placed ms ranges) c.in-Ok.placement) c.deref.ensures.value c.in-Ok.ensures in
+      let driven = subst (λ (ms : List Object). Driven given FilledReported (report lines) ms places (report lines board.driving board.image)) c.deref-2.ensures.value (c.in-Ok-board_at.ensures (report lines)) in
+      subst (λ (known : FileLines). Placing names ranges (λ ms places. Driven given FilledReported (report (lines_of_files names ms places)) ms places) ms (report known board.driving board.image)) (sym c.sources_of.ensures.lines)
+      (placing-ok names ranges (λ ms places. Driven given FilledReported (report (lines_of_files names ms places)) ms places) ms places (report lines board.driving board.image) is.0 driven),
+)
 
 pub returns : goal.returns
 returns c = λ report.
