@@ -1,6 +1,5 @@
-use Rattle.std.proofs.Common.{◌≡◌, ◌≤◌, length, sym, subst, arith}
-use Rattle.kc_kit_messages.proofs.Words.{names_in, texts_in, short-at}
-use Rattle.kc_kit_answer.proofs.CoverSources.{modules_count}
+use Rattle.std.proofs.Common.{◌≤◌, length, sym, subst, arith}
+use Rattle.kc_kit_messages.proofs.Words.{short-at}
 use Rattle.kc_kit_answer.proofs.cover.sources_at.Goals as goal
 
 pub instructions_of-requires-clause-short : goal.instructions_of-requires-clause-short
