@@ -1,4 +1,4 @@
--- The lines of a draft's marks, its pieces and its stack.
+-- The lines of an unlinked module's marks, its pieces and its stack.
 use Rattle.std.proofs.Common.{◌≡◌, ℕ, zero, suc, ◌+◌, ◌-◌, ◌≤◌, ◌%◌, Bool, true, false, cond, ◌&&◌, ◌==◌, List, [], ◌∷◌, ◌++◌, map, drop, replicate, Option, Some, None, refl, subst, arith}
 use Rattle.std.specs.Prelude.{nat_lt, nat_le, unwrap_or, slice_get, slice_set}
 use Rattle.std.specs.List.{list_all}

@@ -1,4 +1,4 @@
--- The module of an unlinked module keeps the rules, and is the draft's.
+-- The module of an unlinked module keeps the rules, and has what the unlinked module has.
 use Rattle.std.proofs.Common.{◌≡◌, ℕ, ◌+◌, ◌<◌, Bool, true, false, not, ◌&&◌, ◌||◌, eqb, ltb, if◌then◌else◌, Option, Some, None, List, [], ◌∷◌, ◌++◌, map, length, refl, sym, ap, subst, ◌∙◌, arith}
 use Rattle.std.specs.List.{slice_get, list_all, list_any, AllByRecursion}
 use Rattle.std.specs.List.Sorted.{IsPermutation}

@@ -64,7 +64,7 @@ fn is_followed(ending: &Ending, left: u16) -> bool
 /// Runs an image with a further unit and the watchdog for `until` states, over at most `lives` lives: a reset begins another
 /// one, for which the inputs go on. Writes the text of all, and answers how the last one has ended.
 ///
-/// After an error, what was written is a prefix of the text; after a out of memory it ends with a life and the line after it.
+/// After an error, what was written is a prefix of the text; where memory has run out, it ends with a life and the line after it.
 pub fn run_lives<M: Maker, S: Sink, L: Ledger>(
     alloc: Global,
     image: &Image,

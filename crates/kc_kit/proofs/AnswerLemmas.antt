@@ -94,6 +94,7 @@ use Rattle.kc_kit_answer.specs.Link.{IsMap, map_writes, LinksTo, Taking, Complet
 use Rattle.kc_kit_answer.proofs.HexLengths.{hex-short}
 use Rattle.kc_kit_answer.specs.Pack.{packed, PackAnswer}
 use Rattle.kc_kit_answer.specs.Places.{by_places, places_of, Placing}
+use Rattle.kc_debug_script.specs.declared.command.Command.{Command as ScriptCommand}
 use Rattle.kc_debug_script.specs.declared.line_map.MapEntry.{MapEntry}
 use Rattle.kc_kit_running.specs.Profiled.{Known, none_known, profile_response, run_over, write_of}
 use Rattle.kc_kit_running.specs.Sources.{FileLines, lines_of_files, no_lines}
@@ -254,7 +255,7 @@ sound-reported : {A : Type 0} (ns : List (List ℕ)) (x : Result A Response) (re
 sound-reported ns (Ok a) report f g = g a
 sound-reported ns (Err e) report f g = f e refl
 
-sound-debugger : (ns : List (List ℕ)) (lives : Option ℕ) (entries : List MapEntry) (commands : List Command) (driving : Driving) (image : List ℕ) → IsSound ns (debugger_response lives entries commands driving image)
+sound-debugger : (ns : List (List ℕ)) (lives : Option ℕ) (entries : List MapEntry) (commands : List ScriptCommand) (driving : Driving) (image : List ℕ) → IsSound ns (debugger_response lives entries commands driving image)
 sound-debugger ns None entries commands driving image = record { reported = reported-end (end_of (debugged_by entries commands driving image).machine); named = inl refl }
 sound-debugger ns (Some most) entries commands driving image = record { reported = reported-end (end_in (debugged_in_lives most entries commands driving image)); named = inl refl }
 
@@ -735,7 +736,7 @@ done-step : {A : Type 0} (x : Result A Response) (report : A → Response) → I
 done-step (Ok a) report ok f = f a
 done-step (Err e) report ok f = absurd (let k : false ≡ true = ok in cc)
 
-done-debugger : (lives : Option ℕ) (entries : List MapEntry) (commands : List Command) (driving : Driving) (image : List ℕ) → IsDone (debugger_response lives entries commands driving image).status
+done-debugger : (lives : Option ℕ) (entries : List MapEntry) (commands : List ScriptCommand) (driving : Driving) (image : List ℕ) → IsDone (debugger_response lives entries commands driving image).status
 done-debugger None entries commands driving image = done-end (end_of (debugged_by entries commands driving image).machine)
 done-debugger (Some most) entries commands driving image = done-end (end_in (debugged_in_lives most entries commands driving image))
 
@@ -918,14 +919,14 @@ ends-by (Some Helps) given h = ends-other given h
 ends-by (Some (HelpsOn verb)) given h = ends-other given h
 ends-by (Some ReportsVersion) given h = ends-other given h
 ends-by (Some (Runs files inputs extent placing)) given h = ends-other given h
-ends-by (Some (Profiles files inputs states placing out)) given h = ends-other given h
-ends-by (Some (ProfilesHex file inputs states out)) given h = ends-other given h
+ends-by (Some (Profiles files inputs extent placing behind)) given h = ends-other given h
+ends-by (Some (ProfilesHex file inputs extent out)) given h = ends-other given h
 ends-by (Some (Assembles file out list)) given h = ends-other given h
 ends-by (Some (Packs files out)) given h = ends-other given h
 ends-by (Some (Links files inputs out beside placing)) given h = ends-other given h
 ends-by (Some (RunsHex file inputs extent)) given h = ends-other given h
 ends-by (Some (Lists file first last)) given h = ends-other given h
-ends-by (Some (Debugs file script inputs)) given h = ends-other given h
+ends-by (Some (Debugs file script inputs lives)) given h = ends-other given h
 ends-by (Some (Generates number)) given h = ends-other given h
 ends-by (Some (Dumps trace inputs out clock)) given h = ends-other given h
 ends-by (Some (Checks trace rules inputs clock)) given h = ends-check given h

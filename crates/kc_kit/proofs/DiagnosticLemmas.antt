@@ -12,7 +12,8 @@ use Rattle.kc_kit_inputs.specs.Driving.{GivenFiles}
 use Rattle.kc_kit_inputs.specs.Sources.{DiagnosticRule, AnyDiagnostic, ReportsFault, SourceIs, ReportsFirst, SourcesAre}
 use Rattle.kc_kit_answer.specs.Answer.{OneText, Parted, CommandAnswer, MayAnswer}
 use Rattle.kc_kit_running.specs.Counted.{summary_of}
-use Rattle.kc_kit_running.specs.Profiled.{Known}
+use Rattle.kc_kit_running.specs.Lives.{board_response}
+use Rattle.kc_kit_running.specs.Profiled.{Known, profile_response}
 use Rattle.kc_kit_running.specs.Sources.{FileLines}
 use Rattle.kc_kit_answer.specs.Assemble.{AssembleAnswer}
 use Rattle.kc_kit_answer.specs.Generate.{made_names, made_texts, made_given}
@@ -58,10 +59,10 @@ module _ (IsDiagnostic : DiagnosticRule) where
   command-any (Some ReportsVersion) contents r h = h
   command-any (Some (Runs files inputs extent placing)) contents r h =
       then-map (reads_of (files ++ names_of inputs) contents) (Parted (length files) (RunAnswer IsDiagnostic files inputs extent placing)) (Parted (length files) (RunAnswer AnyDiagnostic files inputs extent placing)) r
-      (λ texts k. reported-any files _ placing (take (length files) texts) _ r k) h
+      (λ texts k. reported-any files _ placing (take (length files) texts) (λ lines. board_response lines extent) r k) h
   command-any (Some (Profiles files inputs extent placing behind)) contents r h =
       then-map (reads_of (files ++ names_of inputs) contents) (Parted (length files) (ProfileAnswer IsDiagnostic files inputs extent placing behind)) (Parted (length files) (ProfileAnswer AnyDiagnostic files inputs extent placing behind)) r
-      (λ texts k. lines-any files _ placing (take (length files) texts) _ r k) h
+      (λ texts k. lines-any files _ placing (take (length files) texts) (profile_response extent behind) r k) h
   command-any (Some (ProfilesHex file inputs extent out)) contents r h = h
   command-any (Some (Assembles file out list)) contents r h =
       then-map (reads_of (file ∷ []) contents) (OneText (AssembleAnswer IsDiagnostic file out list)) (OneText (AssembleAnswer AnyDiagnostic file out list)) r (λ texts k. object-any file out list texts r k) h

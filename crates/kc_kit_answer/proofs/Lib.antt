@@ -1,5 +1,7 @@
 pub mod AnswerSteps
 pub mod CheckLemmas
+pub mod CoverLemmas
+pub mod CoverSources
 pub mod DebugLemmas
 pub mod DumpLemmas
 pub mod EndedLemmas

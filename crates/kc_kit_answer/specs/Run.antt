@@ -24,7 +24,7 @@ use Rattle.kc_kit_answer.specs.Places.{places_of, Placing}
 use Rattle.kc_kit_running.specs.Lives.{board_response}
 use Rattle.kc_kit_running.specs.Sources.{FileLines, lines_of_files}
 
--- the statements of sources, and the drafts of their modules
+-- the statements of sources, and their unlinked modules
 abbrev pub AreCollected : List (List ℕ) → List (List Stmt) → List UnlinkedModule → List Object → Type 0
 AreCollected [] [] [] [] = Unit {0}
 AreCollected (text ∷ texts) (said ∷ sources) (d ∷ unlinked_modules) (m ∷ ms) =

@@ -3,6 +3,10 @@ ghost use Rattle.std.specs.Prelude.{◌≡◌, ◌≤◌, ◌∷◌, ◌++◌, f
 ghost use Rattle.kc_kit_files.specs.Ended.{Ends, EndsPrinting};
 ghost use Rattle.kc_kit_files.specs.Outside.{kept, shown_by};
 ghost use Rattle.kc_kit_files.specs.Response.{reports};
+ghost use Rattle.kc_kit_words.specs.Asked.{behind_in, IsBounded};
+ghost use Rattle.kc_kit_running.specs.Lives.{board_response};
+ghost use Rattle.kc_kit_running.specs.Profiled.{known, profile_response};
+ghost use Rattle.kc_kit_running.specs.Sources.{ArePlacedIn, lines_in};
 ghost use Rattle.kc_kit_running.specs.Writing.{AreWritten, written};
 ghost use Rattle.kc_kit_answer.specs.Jobs.{IsDoable, does, maybe_written, status_of};
 
@@ -78,22 +82,13 @@ pub fn perform<'a, F: Files, S: Sink>(
             board,
             sources,
             extent,
-        } => run_board::<S, Brand>(alloc, board, &sources, extent, Blank::new(1), out),
+        } => run_of_board(alloc, board, sources, extent, out),
         Job::Profile {
             board,
             extent,
             lines,
             behind,
-        } => profile_board::<F, S, Brand>(
-            alloc,
-            board,
-            extent,
-            &lines,
-            behind,
-            Blank::new(1),
-            files,
-            out,
-        ),
+        } => profile_of_board(alloc, board, extent, lines, behind, files, out),
         Job::Count { board, number } => {
             count_board::<S, Brand>(alloc, board, number, Blank::new(1), out)
         }
@@ -103,13 +98,46 @@ pub fn perform<'a, F: Files, S: Sink>(
             lives,
             script,
             lines,
-        } => {
-            let blank = Blank::new(1);
-            debug_board::<S, Brand>(alloc, board, lives, &script, lines, blank, out)
-        }
+        } => debug_board::<S, Brand>(alloc, board, lives, &script, lines, Blank::new(1), out),
         Job::Report { verdict } => report_verdict(out, verdict),
         Job::Write { file, lines, map } => write_files(alloc, &file, &lines, &map, files),
     }
+}
+
+// Runs a board, with the sources of its image where they are known.
+fn run_of_board<S: Sink>(
+    alloc: Global,
+    board: Board,
+    sources: Option<Sources<'_>>,
+    extent: Extent,
+    out: &mut TraceOut<S>,
+) -> Ended<'static>
+    requires ready { out.old.failed ≡ false }
+    requires bounded { IsBounded extent }
+    requires placed { ArePlacedIn sources }
+    ensures { EndsPrinting (λ response. response ≡ board_response (lines_in sources.entry) extent board.driving board.image) (shown_by S.written S.faults out.old.sink) result (shown_by S.written S.faults out.new.sink) }
+{
+    run_board::<S, Brand>(alloc, board, &sources, extent, Blank::new(1), out)
+}
+
+// Runs a board, and writes the files that are asked for behind the run.
+fn profile_of_board<'a, F: Files, S: Sink>(
+    alloc: Global,
+    board: Board,
+    extent: Extent,
+    lines: Lines<'_>,
+    behind: Behind<'a>,
+    files: &mut F,
+    out: &mut TraceOut<S>,
+) -> Ended<'a>
+    requires ready { out.old.failed ≡ false }
+    requires bounded { IsBounded extent }
+    requires placed { ArePlacedIn lines.linked }
+    ensures response { Ends F.held F.write_faults S.written S.faults (λ response. response ≡ profile_response extent (behind_in behind.entry) (known lines.entry) board.driving board.image) files.old out.old.sink result files.new out.new.sink }
+    ensures no_read { F.read_faults files.new ≡ F.read_faults files.old }
+{
+    let blank = Blank::new(1);
+    profile_board::<F, S, Brand>(alloc, board, extent, &lines, behind, blank, files, out)
 }
 
 // Prints a verdict, with what is said of it.

@@ -30,7 +30,7 @@ OneDiagnostic =
 
 -- ---- calls
 
--- A call with a command, by what it left: files that held this and a sink that was given that. Want of memory and faults of the
+-- A call with a command, by what it left: files that held this and a sink that was given that. A lack of memory and faults of the
 -- outside are left aside: no read failed (reads: their count before and after), and the status is of another kind.
 pub record IsCall (command : Option Command) (held : Holding) (given : List ℕ) (s : Status) (files : Kept) (sink : Shown) : Type 0 where
   pub memory : s ≢ NoMemory

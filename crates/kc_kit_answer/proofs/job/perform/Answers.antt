@@ -19,7 +19,7 @@ use Rattle.kc_kit_answer.proofs.job.perform.Goals as goal
 pub returns-in-Run-clause-answer : goal.returns-in-Run-clause-answer
 returns-in-Run-clause-answer g c =
     Ends-widen (λ (response : Response). response ≡ board_response (lines_in c.in-Run.sources) c.in-Run.extent c.in-Run.board.driving c.in-Run.board.image) (λ (response : Response). response ≡ does c.args.job) _ _
-    c.run_board.result.status c.run_board.result.said _ _ (λ r k. k ∙ sym (ap does c.in-Run.is)) (c.run_board.ensures (kept (g.F.Files.held c.args.files.now) (g.F.Files.write_faults c.args.files.now)))
+    c.run_of_board.result.status c.run_of_board.result.said _ _ (λ r k. k ∙ sym (ap does c.in-Run.is)) (c.run_of_board.ensures (kept (g.F.Files.held c.args.files.now) (g.F.Files.write_faults c.args.files.now)))
 
 pub returns-in-Count-clause-answer : goal.returns-in-Count-clause-answer
 returns-in-Count-clause-answer g c =
@@ -51,4 +51,4 @@ returns-in-Write-clause-answer g c =
 pub returns-in-Profile-clause-answer : goal.returns-in-Profile-clause-answer
 returns-in-Profile-clause-answer g c =
     Ends-widen (λ (response : Response). response ≡ profile_response c.in-Profile.extent (behind_in c.in-Profile.behind) (known c.in-Profile.lines) c.in-Profile.board.driving c.in-Profile.board.image) (λ (response : Response). response ≡ does c.args.job) _ _
-    c.profile_board.result.status c.profile_board.result.said _ _ (λ r k. k ∙ sym (ap does c.in-Profile.is)) c.profile_board.ensures.response
+    c.profile_of_board.result.status c.profile_of_board.result.said _ _ (λ r k. k ∙ sym (ap does c.in-Profile.is)) c.profile_of_board.ensures.response

@@ -1,4 +1,6 @@
-use Rattle.std.proofs.Common.{◌≡◌, map, string_bytes, Err, refl}
+use Rattle.std.proofs.Common.{◌≡◌, List, map, string_bytes, Err, refl, subst}
+use Rattle.kc_obj_module.specs.Object.{Object}
+use Rattle.kc_link.specs.Filled.{IsFilled}
 use Rattle.kc_kit_files.proofs.ReadLemmas.{refused-widen}
 use Rattle.kc_kit_inputs.specs.Driving.{given_in, driving_of}
 use Rattle.kc_kit_messages.proofs.Words.{texts_in}
@@ -17,11 +19,11 @@ returns-in-Ok-driving_in c = (
       let places = c.args.placement.places in
       let k = known c.in-Ok-lines_of.lines in
       then-ok (driving_of (given_in c.args.given)) c.in-Ok-driving_in.driving (λ driving. FilledWithLines names texts (λ k. report k driving) ms places) (report k c.in-Ok-driving_in.driving c.in-Ok.image) c.in-Ok-driving_in.ensures.driving
-      (record { image = c.in-Ok.image; is_filled = c.in-Ok.ensures; known = k; are_lines = c.in-Ok-lines_of.ensures.lines; reported = refl }),
+      (record { image = c.in-Ok.image; is_filled = subst (λ (ms : List Object). IsFilled ms places c.in-Ok.image) c.deref.ensures.value c.in-Ok.ensures; known = k; are_lines = c.in-Ok-lines_of.ensures.lines; reported = refl }),
 )
 
-pub returns-in-Err-driving_in : goal.returns-in-Err-driving_in
-returns-in-Err-driving_in c = λ report.
+pub returns : goal.returns
+returns c = λ report.
     let names = map string_bytes c.args.names.now in
     let texts = texts_in c.args.texts.now in
     let ms = c.args.modules.items in

@@ -16,7 +16,7 @@ returns-in-Ok c =
     let behind : Behind = record { profile = Some run.out.now; cover = None } in
     let report : Driving → List ℕ → Response = profile_response run.extent behind none_known in
     let reported = subst (λ s. HexReported run.file.now s c.args.text.now report (report c.in-Ok.board.driving c.in-Ok.board.image)) c.given_for-given.ensures.given (c.in-Ok.ensures report) in
-    let same : none_known ≡ record { entries = c.new.result.items; sources = c.new-2.result.items; lines = no_lines } = λ i. record { entries = sym c.new.ensures.items i; sources = sym c.new-2.ensures.items i; lines = no_lines } in
+    let same : none_known ≡ record { entries = c.new.result.items; sources = c.new-in-Ok.result.items; lines = no_lines } = λ i. record { entries = sym c.new.ensures.items i; sources = sym c.new-in-Ok.ensures.items i; lines = no_lines } in
     (subst (λ (k : Known). HexReported run.file.now (given_for (inputs_in run.inputs) (texts_in c.args.inputs.now)) c.args.text.now report (profile_response run.extent behind k c.in-Ok.board.driving c.in-Ok.board.image)) same reported, (c.requires.bounded, tt))
 
 pub returns-in-Err : goal.returns-in-Err
