@@ -194,6 +194,10 @@ pub once-wanting : (states : ℕ) (k : Known) (m : Machine FittedUnit) (old new 
 unfolding once-of
 once-wanting states k m old new put written = (last-pause (λ text. Puts old text new) ([] ∷ []) (trace_of (run_to fitted_further states m)) put, written)
 
+pub once-cut : (states : ℕ) (k : Known) (m : Machine FittedUnit) (old new : Out) → Puts old (trace_of (run_to fitted_further states m)) new → new.failed ≡ true → HasFailed (once-of states k m) old fault.WriteFault new
+unfolding once-of
+once-cut states k m old new put failed = (put, failed)
+
 -- the sink failed in its lines, and the finals are not put
 pub once-broken : (states : ℕ) (k : Known) (m : Machine FittedUnit) (old new : Out) → new.failed ≡ true → Puts old (text_of (run_to fitted_further states m).records) new → Puts old (once-of states k m).text new
 unfolding once-of
