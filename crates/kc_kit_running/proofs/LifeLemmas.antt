@@ -127,7 +127,7 @@ module _
         by_watchdog = ends.by_watchdog;
         machine = ends.machine;
         lines = ends-lines watched_further deadline_of until m0 (m.time + (stop - m.time)) n (end_of n) false o0 p ends on.lines;
-        ran = subst (λ (w : End). HasRun w n.time) (sym e) (ran-over watched_further (m.time + (stop - m.time)) n on.machine first);
+        ran = subst (λ (w : End). HasRun w n.time) (sym e) (ran-over watched_further deadline_of until m0 (m.time + (stop - m.time)) n on.machine first);
         within = omega (arith, within, span.fits);
         written = unbroken;
       }
