@@ -249,7 +249,7 @@ module _ (states most : ℕ) (k : Known) (driving : Driving) (image : List ℕ) 
               (reported-wanting all_lives o0 0 (life_from watched_further deadline_of image driving.stimuli (watched_for driving.values driving.stimuli) states (from + this_life.ran.machine.time)) following.0 p 0
               (subst (λ xs. Reported all_lives o0 0 xs p 0) following.1 next_reported) unbroken)
 
-          pub watching-next : (texts covers : List ℕ) (u : Tally) (v : Statistics) → p.failed ≡ false → texts ≡ lives_profile k 1 (way.lives ++ own_counted ∷ []) → covers ≡ lives_cover k 1 (way.lives ++ own_counted ∷ []) →
+          watching-next : (texts covers : List ℕ) (u : Tally) (v : Statistics) → p.failed ≡ false → texts ≡ lives_profile k 1 (way.lives ++ own_counted ∷ []) → covers ≡ lives_cover k 1 (way.lives ++ own_counted ∷ []) →
               IsSum (way.lives ++ own_counted ∷ []) u v → Watching (left - 1) (from + n.time) (life + 1) p texts covers u v
           watching-next texts covers u v unbroken e f sum =
               let there : this_life.ran.machine.time ≡ n.time = sym own_time in
@@ -278,6 +278,10 @@ module _ (states most : ℕ) (k : Known) (driving : Driving) (image : List ℕ) 
                 all = omega (arith, way.all, way.some);
                 unbroken = unbroken;
               }
+
+          pub watching-on : (time : ℕ) (texts covers : List ℕ) (u : Tally) (v : Statistics) → time ≡ n.time → p.failed ≡ false → texts ≡ lives_profile k 1 (way.lives ++ own_counted ∷ []) → covers ≡ lives_cover k 1 (way.lives ++ own_counted ∷ []) →
+              IsSum (way.lives ++ own_counted ∷ []) u v → Watching (left - 1) (from + time) (life + 1) p texts covers u v
+          watching-on time texts covers u v at unbroken e f sum = subst (λ j. Watching (left - 1) (from + j) (life + 1) p texts covers u v) (sym at) (watching-next texts covers u v unbroken e f sum)
 
 -- ---- what is counted is within its limits
 
