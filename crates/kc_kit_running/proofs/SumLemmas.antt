@@ -2,7 +2,6 @@
 use Rattle.std.proofs.Common.{◌≡◌, ℕ, ◌+◌, List, [], ◌∷◌, ◌++◌, length, map, refl, sym, ◌∙◌, ap, subst, append-nil, append_assoc, length-append, arith}
 use Rattle.std.specs.Prelude.{flat_map, codes, Some}
 use Rattle.std.proofs.lemmas.Grind.{flat_map-append}
-use Rattle.std.proofs.lemmas.List.{length_push}
 use Rattle.kc_profile.specs.declared.sight.Sight.{Sight}
 use Rattle.kc_profile.specs.declared.spot.Spot.{Spot}
 use Rattle.kc_profile.specs.Statistics.{Statistics, AreAllFew, statistics_of, statistics_of_lives, with_life, with_lives}

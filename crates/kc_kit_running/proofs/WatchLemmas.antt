@@ -1,7 +1,7 @@
 -- Lives of a board that are run one after the other and counted.
-use Rattle.std.proofs.Common.{◌≡◌, ℕ, zero, suc, ◌+◌, ◌-◌, ◌<◌, ◌≤◌, ◌^◌, Bool, true, false, ◌&&◌, List, [], ◌∷◌, ◌++◌, length, length-append, append_assoc, map, Option, Some, None, Ok, Err, refl, sym, ◌∙◌, ap, subst, arith}
+use Rattle.std.proofs.Common.{◌≡◌, ℕ, zero, suc, ◌+◌, ◌-◌, ◌<◌, ◌≤◌, ◌^◌, Bool, true, false, ◌&&◌, List, [], ◌∷◌, ◌++◌, length, length-append, append_assoc, Option, Some, None, Ok, Err, refl, sym, ◌∙◌, ap, subst, arith}
 use Rattle.std.specs.Prelude.{flat_map, nat_lt}
-use Rattle.std.specs.List.{Any, range_with_len}
+use Rattle.std.specs.List.{Any}
 use Rattle.std.proofs.lemmas.List.{get_or-append-add}
 use Rattle.std.proofs.lemmas.List.FromFn.{length-map-range_with_len, get_or-map-range_with_len}
 use Rattle.kc_base.specs.Limits.{max_states}
@@ -16,10 +16,9 @@ use Rattle.kc_machine_spec.specs.Run.{run_for}
 use Rattle.kc_machine_spec.specs.Text.{finals}
 use Rattle.kc_cycles.specs.declared.lives.LivesFault.TheVariants as fault
 use Rattle.kc_cycles.specs.Life.{Life}
-use Rattle.kc_cycles.specs.Lives.{is_reset, life_from, lives_from, lives_text, restart_line, text_before, AreReported}
+use Rattle.kc_cycles.specs.Lives.{is_reset, life_from, lives_from, restart_line, text_before, AreReported}
 use Rattle.kc_cycles.specs.Making.{IsWatched, deadline_of}
 use Rattle.kc_cycles.proofs.Following.{Reported, reported-first, reported-next, reported-wanting, reported-cut, reported-cut_line, reported-last, reported-cut_last, lives-some, lives-followed, lives-last}
-use Rattle.kc_profile.specs.declared.sight.Sight.{Sight}
 use Rattle.kc_profile.specs.declared.spot.Spot.{Spot}
 use Rattle.kc_profile.specs.Sights.{history, Begins}
 use Rattle.kc_profile.specs.Spots.{spots_for, unless_over, coming_spot}

@@ -1,4 +1,4 @@
-use Rattle.std.proofs.Common.{◌+◌, ◌++◌, ◌∷◌, [], ◌∙◌, ap, length-append, arith}
+use Rattle.std.proofs.Common.{◌++◌, ◌∷◌, [], ◌∙◌, ap, length-append, arith}
 use Rattle.kc_kit_running.specs.Profiled.{known}
 use Rattle.kc_kit_running.proofs.SumLemmas.{cover-next, profile-next, sums-behind}
 use Rattle.kc_kit_running.proofs.profile_lives.last_accounts.Goals as goal

@@ -1,4 +1,4 @@
-use Rattle.std.proofs.Common.{◌+◌, ◌-◌, ◌<◌, ◌≤◌, ◌^◌, refl, sym, ◌∙◌, ap, subst, arith}
+use Rattle.std.proofs.Common.{◌-◌, ◌≤◌, ◌^◌, sym, ◌∙◌, ap, arith}
 use Rattle.std.specs.Prelude.{is_some, ◌||◌, ◌==◌}
 use Rattle.kc_trace.specs.Trace.{out_of}
 use Rattle.kc_machine_spec.specs.Run.{end_of}
