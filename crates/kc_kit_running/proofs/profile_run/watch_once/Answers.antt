@@ -1,13 +1,7 @@
-use Rattle.std.proofs.Common.{◌≡◌, ◌∙◌, ◌+◌, ◌-◌, ◌<◌, ◌^◌, refl, sym, ap, subst, arith}
-use Rattle.kc_trace.specs.Out.{Puts}
-use Rattle.kc_trace.specs.Text.{text_of}
+use Rattle.std.proofs.Common.{◌∙◌, ◌-◌, ◌^◌, sym, ap, subst, arith}
 use Rattle.kc_trace.specs.Trace.{out_of}
-use Rattle.kc_machine_spec.specs.declared.doing.End.{End}
 use Rattle.kc_machine_spec.specs.Machine.{Machine, Stepped}
 use Rattle.kc_machine_spec.specs.Run.{run_to, end_of}
-use Rattle.kc_machine_spec.specs.Text.{finals, trace_of}
-use Rattle.kc_profile.specs.Sights.{history}
-use Rattle.kc_profile.specs.Statistics.{AreStatisticsOf}
 use Rattle.kc_cycles.specs.declared.lives.LivesFault.TheVariants as fault
 use Rattle.kc_kit_running.specs.Fitted.{FittedUnit, fitted_further}
 use Rattle.kc_kit_running.specs.Passing.{HasFailed, HasPassed}
