@@ -6,4 +6,5 @@ pub mod RunLemmas
 pub mod ScriptLemmas
 pub mod SourceLemmas
 pub mod SumLemmas
+pub mod WatchLemmas
 pub mod WritingLemmas

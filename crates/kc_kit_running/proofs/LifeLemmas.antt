@@ -1,6 +1,5 @@
 -- A life that is run in spans while its states are counted.
-use Rattle.std.proofs.Common.{◌≡◌, ◌⊎◌, ℕ, zero, suc, ◌+◌, ◌-◌, ◌*◌, ◌<◌, ◌≤◌, Bool, true, false, List, [], ◌++◌, length, Option, Some, None, Result, Ok, Err, refl, sym, ◌∙◌, ap, subst, length-append, arith}
-use Rattle.std.specs.Prelude.{OnOk}
+use Rattle.std.proofs.Common.{◌≡◌, ◌⊎◌, ℕ, zero, suc, ◌+◌, ◌-◌, ◌*◌, ◌<◌, ◌≤◌, true, false, List, [], ◌++◌, length, Some, None, refl, sym, ◌∙◌, ap, subst, length-append, arith}
 use Rattle.kc_trace.specs.Out.{Out, Puts}
 use Rattle.kc_trace.specs.Text.{text_of}
 use Rattle.kc_machine_spec.specs.declared.doing.End.{End}
@@ -16,7 +15,7 @@ use Rattle.kc_profile.specs.Spots.{spots_for}
 use Rattle.kc_profile.specs.Statistics.{Statistics, AreAllFew, AreStatisticsOf}
 use Rattle.kc_profile.specs.Tally.{Tally, IsTallyOf}
 use Rattle.kc_profile.proofs.Spotted.{spots-add, spots-none}
-use Rattle.kc_cycles.specs.Life.{is_at, life_for}
+use Rattle.kc_cycles.specs.Life.{is_at}
 use Rattle.kc_cycles.specs.Making.{deadline_of}
 use Rattle.kc_cycles.proofs.Fitted.{pair-feeds}
 use Rattle.kc_cycles.proofs.Going.{Along, Feeds, IsAhead, IsLeft, Spanned, ahead-none, along-first, along-next, along-lines, cut-lines, ends-bitten, ends-lines, ends-over, left-at, left-first, ran-over, spanned-ahead, spanned-time}
@@ -127,7 +126,7 @@ module _
         by_watchdog = ends.by_watchdog;
         machine = ends.machine;
         lines = ends-lines watched_further deadline_of until m0 (m.time + (stop - m.time)) n (end_of n) false o0 p ends on.lines;
-        ran = subst (λ (w : End). HasRun w n.time) (sym e) (ran-over watched_further (m.time + (stop - m.time)) n on.machine first);
+        ran = subst (λ (w : End). HasRun w n.time) (sym e) (ran-over watched_further deadline_of until m0 (m.time + (stop - m.time)) n on.machine first);
         within = omega (arith, within, span.fits);
         written = unbroken;
       }

@@ -1,5 +1,5 @@
 -- The response of a run of several lives.
-use Rattle.std.proofs.Common.{◌≡◌, ℕ, false, List, length, map, Result, Ok, Err, refl, ◌∙◌, ap, subst, arith}
+use Rattle.std.proofs.Common.{◌≡◌, ℕ, false, List, length, map, Result, Ok, Err, subst, arith}
 use Rattle.std.specs.List.{range_with_len}
 use Rattle.std.proofs.lemmas.List.FromFn.{length-map-range_with_len, get_or-map-range_with_len}
 use Rattle.kc_base.specs.Causes.{Grew}

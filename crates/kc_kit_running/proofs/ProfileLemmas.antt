@@ -1,23 +1,19 @@
 -- The response of a run whose states are counted.
-use Rattle.std.proofs.Common.{◌≡◌, ◌≢◌, ◌⊎◌, inl, inr, ℕ, ◌+◌, ◌-◌, ◌^◌, ◌<◌, ◌≤◌, false, true, List, [], ◌∷◌, ◌++◌, length, Option, Some, None, Result, Ok, Err, refl, sym, ◌∙◌, ap, subst, arith}
+use Rattle.std.proofs.Common.{◌≡◌, ◌≢◌, ◌⊎◌, inl, inr, ℕ, ◌-◌, ◌≤◌, false, true, List, [], ◌∷◌, ◌++◌, None, refl, sym, ◌∙◌, ap, subst, arith}
 use Rattle.std.specs.Prelude.{max}
 use Rattle.std.specs.List.{Any}
-use Rattle.kc_base.specs.Causes.{Rose, Grew, GrewByPart}
-use Rattle.kc_base.specs.Held.{Holding}
+use Rattle.kc_base.specs.Causes.{Grew}
 use Rattle.kc_trace.specs.Out.{Out, Puts}
 use Rattle.kc_trace.specs.Text.{text_of}
 use Rattle.kc_trace.proofs.Outs.{Puts-longer, Puts-nothing}
 use Rattle.kc_trace.proofs.Printed.{text_of-append}
-use Rattle.kc_debug_script.specs.declared.line_map.MapEntry.{MapEntry}
 use Rattle.kc_machine_spec.specs.declared.doing.End.{End}
 use Rattle.kc_machine_spec.specs.declared.doing.End.TheVariants as end
 use Rattle.kc_machine_spec.specs.Machine.{Machine, Stepped}
 use Rattle.kc_machine_spec.specs.Run.{run_for, run_to, end_of}
 use Rattle.kc_machine_spec.specs.Text.{finals, trace_of}
-use Rattle.kc_cycles.specs.declared.lives.LivesFault.{LivesFault}
 use Rattle.kc_cycles.specs.declared.lives.LivesFault.TheVariants as fault
 use Rattle.kc_profile.specs.declared.sight.Sight.{Sight}
-use Rattle.kc_profile.specs.declared.spot.Spot.{Spot}
 use Rattle.kc_profile.specs.declared.statistics_text.Scope.TheVariants as scope
 use Rattle.kc_profile.specs.Passing.{CountsOn}
 use Rattle.kc_profile.specs.Sights.{history, Begins}
@@ -41,7 +37,7 @@ use Rattle.kc_kit_running.specs.Counting.{IsCount}
 use Rattle.kc_kit_running.specs.Fitted.{FittedUnit, fitted_further}
 use Rattle.kc_kit_running.specs.Passing.{HasFailed, HasFinished, HasPassed}
 use Rattle.kc_kit_running.specs.Profiled.{Known, Run, Texts, counted_for, counted_text, once, pauses_of, profiled, run_texts, writes_of}
-use Rattle.kc_kit_running.specs.Running.{machine_of, said_of, status_of, IsEndOf, IsUndefined}
+use Rattle.kc_kit_running.specs.Running.{machine_of, status_of, IsEndOf}
 use Rattle.kc_kit_running.specs.Writing.{AreWritten, AreWrittenBy, IsRefusedAt}
 use Rattle.kc_kit_running.proofs.CountLemmas.{history-all}
 use Rattle.kc_kit_running.proofs.RunLemmas.{last-pause, run-failed, run-paused}
@@ -193,6 +189,10 @@ once-passed states k m old new how texts e put written t = record { how = e; lin
 pub once-wanting : (states : ℕ) (k : Known) (m : Machine FittedUnit) (old new : Out) → Puts old (trace_of (run_to fitted_further states m)) new → new.failed ≡ false → HasFailed (once-of states k m) old fault.NoMemory new
 unfolding once-of
 once-wanting states k m old new put written = (last-pause (λ text. Puts old text new) ([] ∷ []) (trace_of (run_to fitted_further states m)) put, written)
+
+pub once-cut : (states : ℕ) (k : Known) (m : Machine FittedUnit) (old new : Out) → Puts old (trace_of (run_to fitted_further states m)) new → new.failed ≡ true → HasFailed (once-of states k m) old fault.WriteFault new
+unfolding once-of
+once-cut states k m old new put failed = (put, failed)
 
 -- the sink failed in its lines, and the finals are not put
 pub once-broken : (states : ℕ) (k : Known) (m : Machine FittedUnit) (old new : Out) → new.failed ≡ true → Puts old (text_of (run_to fitted_further states m).records) new → Puts old (once-of states k m).text new

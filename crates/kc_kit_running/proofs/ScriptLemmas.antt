@@ -53,7 +53,7 @@ module _ {X : Type 0} (l : InLife X) (may : Response → Type 0) (files : Kept) 
   -- the transcript is printed whole
   pub debugged-whole : (how : End) → IsAnswered l old (Ok how) new → IsEndOf no_lines how ended → EndsBy may files (shown old.written old.faults) ended.status ended.said files (shown new.written new.faults)
   debugged-whole how h said =
-      run-ended no_lines (end_in l) l.text l.pauses may files (shown old.written old.faults) (shown new.written new.faults) ended is (subst (λ (w : End). IsEndOf no_lines w ended) h.0 said) (h.1.whole h.2)
+      run-ended no_lines (end_in l) l.text ([] ∷ l.pauses) may files (shown old.written old.faults) (shown new.written new.faults) ended is (subst (λ (w : End). IsEndOf no_lines w ended) h.0 said) (h.1.whole h.2)
 
   -- the sink fails in it
   pub debugged-part : old.failed ≡ false → IsAnswered l old (Err fault.WriteFault) new → ended.status ≡ status.WriteFault → ended.said ≡ said.Nothing → EndsBy may files (shown old.written old.faults) ended.status ended.said files (shown new.written new.faults)

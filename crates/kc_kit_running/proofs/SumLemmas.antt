@@ -2,7 +2,6 @@
 use Rattle.std.proofs.Common.{◌≡◌, ℕ, ◌+◌, List, [], ◌∷◌, ◌++◌, length, map, refl, sym, ◌∙◌, ap, subst, append-nil, append_assoc, length-append, arith}
 use Rattle.std.specs.Prelude.{flat_map, codes, Some}
 use Rattle.std.proofs.lemmas.Grind.{flat_map-append}
-use Rattle.std.proofs.lemmas.List.{length_push}
 use Rattle.kc_profile.specs.declared.sight.Sight.{Sight}
 use Rattle.kc_profile.specs.declared.spot.Spot.{Spot}
 use Rattle.kc_profile.specs.Statistics.{Statistics, AreAllFew, statistics_of, statistics_of_lives, with_life, with_lives}
@@ -11,7 +10,8 @@ use Rattle.kc_profile.proofs.Tallies.{tallies_are_one}
 use Rattle.kc_profile.proofs.StatisticsOne.{statistics_are_one}
 use Rattle.kc_cover.specs.Cover.{cover_text}
 use Rattle.kc_kit_running.specs.Counting.{IsCount, IsSum}
-use Rattle.kc_kit_running.specs.Profiled.{Counted, Known, heading, life_text, lives_cover, lives_profile}
+use Rattle.kc_profile.specs.declared.statistics_text.Scope.TheVariants as scope
+use Rattle.kc_kit_running.specs.Profiled.{Counted, Known, counted_text, heading, life_text, lives_cover, lives_profile, sums_text}
 
 -- ---- one life more
 
@@ -30,7 +30,7 @@ length-sights : (lives : List Counted) → length (map (λ (c : Counted). c.sigh
 length-sights [] = refl
 length-sights (c ∷ lives) = let e = length-sights lives in omega (arith, e)
 
-spots-more : (lives : List Counted) (c : Counted) → flat_map (λ (c : Counted). c.spots) (lives ++ c ∷ []) ≡ flat_map (λ (c : Counted). c.spots) lives ++ c.spots
+pub spots-more : (lives : List Counted) (c : Counted) → flat_map (λ (c : Counted). c.spots) (lives ++ c ∷ []) ≡ flat_map (λ (c : Counted). c.spots) lives ++ c.spots
 spots-more lives c = flat_map-append (λ (c : Counted). c.spots) lives (c ∷ []) ∙ ap (λ xs. flat_map (λ (c : Counted). c.spots) lives ++ xs) (append-nil c.spots)
 
 pub sum-next : (lives : List Counted) (c : Counted) (number : ℕ) (t own u : Tally) (s its v : Statistics) → number ≡ 1 + length lives → IsSum lives t s → IsCount number c.spots c.sights own its →
@@ -74,3 +74,27 @@ cover-more k number (d ∷ lives) c =
     let e : number + 1 + length lives ≡ number + length (d ∷ lives) = omega arith in
     ap (λ xs. first ++ xs) (cover-more k (number + 1) lives c ∙ ap (λ n. lives_cover k (number + 1) lives ++ cover_text (Some n) (statistics_of n c.sights) k.sources) e)
     ∙ sym (append_assoc first (lives_cover k (number + 1) lives) (cover_text (Some (number + length (d ∷ lives))) (statistics_of (number + length (d ∷ lives)) c.sights) k.sources))
+
+-- ---- the texts that are put behind those of the lives before
+
+pub profile-next : (k : Known) (number : ℕ) (lives : List Counted) (c : Counted) (before now : List ℕ) (own : Tally) (its : Statistics) → number ≡ 1 + length lives → IsCount number c.spots c.sights own its → before ≡ lives_profile k 1 lives →
+    now ≡ before ++ (heading (codes "life ") number ++ counted_text scope.Life k.entries own its) → now ≡ lives_profile k 1 (lives ++ c ∷ [])
+profile-next k number lives c before now own its is count e put =
+    let one : own ≡ tally_of c.spots = tallies_are_one c.spots own count.tally in
+    let other : its ≡ statistics_of number c.sights = statistics_are_one number c.sights its count.life count.statistics in
+    put ∙ (λ i. e i ++ (heading (codes "life ") number ++ counted_text scope.Life k.entries (one i) (other i)))
+    ∙ ap (λ n. lives_profile k 1 lives ++ (heading (codes "life ") n ++ life_text k n c)) is ∙ sym (profile-more k 1 lives c)
+
+pub cover-next : (k : Known) (number : ℕ) (lives : List Counted) (c : Counted) (before now : List ℕ) (own : Tally) (its : Statistics) → number ≡ 1 + length lives → IsCount number c.spots c.sights own its → before ≡ lives_cover k 1 lives →
+    now ≡ before ++ cover_text (Some number) its k.sources → now ≡ lives_cover k 1 (lives ++ c ∷ [])
+cover-next k number lives c before now own its is count e put =
+    let other : its ≡ statistics_of number c.sights = statistics_are_one number c.sights its count.life count.statistics in
+    put ∙ (λ i. e i ++ cover_text (Some number) (other i) k.sources)
+    ∙ ap (λ n. lives_cover k 1 lives ++ cover_text (Some n) (statistics_of n c.sights) k.sources) is ∙ sym (cover-more k 1 lives c)
+
+pub sums-behind : (k : Known) (number : ℕ) (lives : List Counted) (before now : List ℕ) (t : Tally) (s : Statistics) → number ≡ length lives → IsSum lives t s → before ≡ lives_profile k 1 lives →
+    now ≡ before ++ heading (codes "lives ") number ++ counted_text scope.Lives k.entries t s → now ≡ lives_profile k 1 lives ++ sums_text k lives
+sums-behind k number lives before now t s is sum e put =
+    let one : t ≡ tally_of (flat_map (λ (c : Counted). c.spots) lives) = tallies_are_one (flat_map (λ (c : Counted). c.spots) lives) t sum.tally in
+    put ∙ append_assoc before (heading (codes "lives ") number) (counted_text scope.Lives k.entries t s)
+    ∙ (λ i. e i ++ (heading (codes "lives ") (is i) ++ counted_text scope.Lives k.entries (one i) (sum.statistics i)))

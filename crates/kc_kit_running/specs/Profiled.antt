@@ -8,7 +8,6 @@ use Rattle.kc_machine_spec.specs.Machine.{Machine, start}
 use Rattle.kc_machine_spec.specs.Run.{end_of}
 use Rattle.kc_machine_spec.specs.Text.{trace_of}
 use Rattle.kc_cycles.specs.Life.{Life}
-use Rattle.kc_cycles.specs.Making.{deadline_of}
 use Rattle.kc_cycles.specs.Lives.{last_end, lives_text, text_before}
 use Rattle.kc_profile.specs.declared.sight.Sight.{Sight}
 use Rattle.kc_profile.specs.declared.statistics_text.Scope.{Scope}

@@ -156,24 +156,24 @@ pub(crate) fn watch_lives<S: Sink, L: Ledger>(
             return Err(LivesFault::WriteFault);
         };
         if !is_followed(&ending, left) {
-            if machine.write_finals(ending.how, out).is_err() {
+            let Ok(()) = machine.write_finals(ending.how, out) else {
                 return Err(LivesFault::WriteFault);
-            }
-            return match last_accounts(alloc, life, &account, lines, accounts, sums) {
-                Ok(accounts) => Ok(Watched {
-                    how: ending.how,
-                    accounts,
-                }),
-                Err(NoMemory) => Err(LivesFault::NoMemory),
             };
+            let Ok(accounts) = last_accounts(alloc, life, &account, lines, accounts, sums) else {
+                return Err(LivesFault::NoMemory);
+            };
+            return Ok(Watched {
+                how: ending.how,
+                accounts,
+            });
         }
         put_restart(machine.now() - 1, ending.by_watchdog, out);
         if out.failed() {
             return Err(LivesFault::WriteFault);
         }
-        if account_for(alloc, life, &account, lines, &mut accounts, &mut sums).is_err() {
+        let Ok(()) = account_for(alloc, life, &account, lines, &mut accounts, &mut sums) else {
             return Err(LivesFault::NoMemory);
-        }
+        };
         from += machine.now();
         left -= 1;
         life += 1;

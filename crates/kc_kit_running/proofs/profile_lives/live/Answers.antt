@@ -1,4 +1,4 @@
-use Rattle.std.proofs.Common.{◌+◌, ◌-◌, ◌<◌, ◌≤◌, ◌^◌, refl, sym, ◌∙◌, ap, subst, arith}
+use Rattle.std.proofs.Common.{◌-◌, ◌≤◌, ◌^◌, sym, ◌∙◌, ap, arith}
 use Rattle.std.specs.Prelude.{is_some, ◌||◌, ◌==◌}
 use Rattle.kc_trace.specs.Trace.{out_of}
 use Rattle.kc_machine_spec.specs.Run.{end_of}
@@ -67,7 +67,7 @@ spans-preserved g c =
     let mid = out_of g.S.Sink.written g.S.Sink.faults c.spans.out in
     let new = out_of g.S.Sink.written g.S.Sink.faults c.run_profiled.new.out in
     let span = spanned watched_further deadline_of watched-feeds until m0 m.time m stop _ _ w.left w.along.machine w.within w.ahead c.span_end-stop.ensures c.now.ensures c.deadline_in.ensures in
-    let within = omega (arith, c.run_profiled.ensures.within, span.forward) in
+    let within : n.time ≤ stop = omega (arith, c.run_profiled.ensures.within, span.forward) in
     let gone = gone-of life m0 m c.spans.account.profile c.spans.account.statistics n c.run_profiled.new.profile c.run_profiled.new.statistics c.requires.begins w.along.machine w.counted
     (gone-forward m n stop span.forward (c.run_profiled.ensures.goes w.lives) c.in_ok-how.ensures.machine) c.run_profiled.ensures.profile c.run_profiled.ensures.passed c.run_profiled.ensures.life c.in_ok-how.ensures.statistics c.run_profiled.ensures.few in
     let on = over-neither n.ended stop until (ap (λ o. is_some o || (stop == until)) (sym c.ended.ensures) ∙ sym c.is_over.ensures ∙ c.if-is_over.false) in
@@ -105,7 +105,7 @@ returns-then-is_over-clause-lived g c =
     let mid = out_of g.S.Sink.written g.S.Sink.faults c.spans.out in
     let new = out_of g.S.Sink.written g.S.Sink.faults c.run_profiled.new.out in
     let span = spanned watched_further deadline_of watched-feeds until m0 m.time m stop _ _ w.left w.along.machine w.within w.ahead c.span_end-stop.ensures c.now.ensures c.deadline_in.ensures in
-    let within = omega (arith, c.run_profiled.ensures.within, span.forward) in
+    let within : n.time ≤ stop = omega (arith, c.run_profiled.ensures.within, span.forward) in
     way-over until life m0 old c.args.steps.now m mid c.spans.steps c.spans.account.profile c.spans.account.statistics w stop span n new c.run_profiled.new.steps c.run_profiled.new.profile c.run_profiled.new.statistics _ c.in_ok-how.ensures.machine c.run_profiled.ensures.lines within c.run_profiled.ensures.spent c.in_ok-how.ensures.written c.requires.lives
     (c.in_ok-how.ensures.end ∙ ap end_of (sym c.in_ok-how.ensures.machine)) (over-either n.ended stop until (ap (λ o. is_some o || (stop == until)) (sym c.ended.ensures) ∙ sym c.is_over.ensures ∙ c.if-is_over.true))
 
@@ -122,7 +122,7 @@ returns-then-is_over-clause-counted g c =
     let mid = out_of g.S.Sink.written g.S.Sink.faults c.spans.out in
     let new = out_of g.S.Sink.written g.S.Sink.faults c.run_profiled.new.out in
     let span = spanned watched_further deadline_of watched-feeds until m0 m.time m stop _ _ w.left w.along.machine w.within w.ahead c.span_end-stop.ensures c.now.ensures c.deadline_in.ensures in
-    let within = omega (arith, c.run_profiled.ensures.within, span.forward) in
+    let within : n.time ≤ stop = omega (arith, c.run_profiled.ensures.within, span.forward) in
     let gone = gone-of life m0 m c.spans.account.profile c.spans.account.statistics n c.run_profiled.new.profile c.run_profiled.new.statistics c.requires.begins w.along.machine w.counted
     (gone-forward m n stop span.forward (c.run_profiled.ensures.goes w.lives) c.in_ok-how.ensures.machine) c.run_profiled.ensures.profile c.run_profiled.ensures.passed c.run_profiled.ensures.life c.in_ok-how.ensures.statistics c.run_profiled.ensures.few in
     (more-counted life m0 m c.spans.account.profile c.spans.account.statistics n c.run_profiled.new.profile c.run_profiled.new.statistics w.along.machine w.counted gone).count
@@ -141,7 +141,7 @@ returns-then-has_come-clause-lived g c =
     let new = out_of g.S.Sink.written g.S.Sink.faults c.run_profiled.new.out in
     let span = spanned watched_further deadline_of watched-feeds until m0 m.time m stop _ _ w.left w.along.machine w.within w.ahead c.span_end-stop.ensures c.now.ensures c.deadline_in.ensures in
     let on = over-neither n.ended stop until (ap (λ o. is_some o || (stop == until)) (sym c.ended.ensures) ∙ sym c.is_over.ensures ∙ c.if-is_over.false) in
-    let within = omega (arith, c.run_profiled.ensures.within, span.forward) in
+    let within : n.time ≤ stop = omega (arith, c.run_profiled.ensures.within, span.forward) in
     let due = ap (λ o. is_at o stop) (sym c.deadline_in-in-spans.ensures) ∙ sym c.has_come.ensures ∙ c.if-has_come.true in
     let forward = span.goes on.1 in
     way-bitten until life m0 old c.args.steps.now m mid c.spans.steps c.spans.account.profile c.spans.account.statistics w stop span n new c.run_profiled.new.steps c.run_profiled.new.profile c.run_profiled.new.statistics c.in_ok-how.ensures.machine c.run_profiled.ensures.lines within c.run_profiled.ensures.spent c.in_ok-how.ensures.written on.0 (omega (arith, span.fits, on.1)) (omega (arith, forward)) due
@@ -159,7 +159,7 @@ returns-then-has_come-clause-counted g c =
     let mid = out_of g.S.Sink.written g.S.Sink.faults c.spans.out in
     let new = out_of g.S.Sink.written g.S.Sink.faults c.run_profiled.new.out in
     let span = spanned watched_further deadline_of watched-feeds until m0 m.time m stop _ _ w.left w.along.machine w.within w.ahead c.span_end-stop.ensures c.now.ensures c.deadline_in.ensures in
-    let within = omega (arith, c.run_profiled.ensures.within, span.forward) in
+    let within : n.time ≤ stop = omega (arith, c.run_profiled.ensures.within, span.forward) in
     let gone = gone-of life m0 m c.spans.account.profile c.spans.account.statistics n c.run_profiled.new.profile c.run_profiled.new.statistics c.requires.begins w.along.machine w.counted
     (gone-forward m n stop span.forward (c.run_profiled.ensures.goes w.lives) c.in_ok-how.ensures.machine) c.run_profiled.ensures.profile c.run_profiled.ensures.passed c.run_profiled.ensures.life c.in_ok-how.ensures.statistics c.run_profiled.ensures.few in
     (more-counted life m0 m c.spans.account.profile c.spans.account.statistics n c.run_profiled.new.profile c.run_profiled.new.statistics w.along.machine w.counted gone).count

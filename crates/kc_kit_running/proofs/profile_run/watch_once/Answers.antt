@@ -1,19 +1,13 @@
-use Rattle.std.proofs.Common.{◌≡◌, ◌∙◌, ◌+◌, ◌-◌, ◌<◌, ◌^◌, refl, sym, ap, subst, arith}
-use Rattle.kc_trace.specs.Out.{Puts}
-use Rattle.kc_trace.specs.Text.{text_of}
+use Rattle.std.proofs.Common.{◌∙◌, ◌-◌, ◌^◌, sym, ap, subst, arith}
 use Rattle.kc_trace.specs.Trace.{out_of}
-use Rattle.kc_machine_spec.specs.declared.doing.End.{End}
 use Rattle.kc_machine_spec.specs.Machine.{Machine, Stepped}
 use Rattle.kc_machine_spec.specs.Run.{run_to, end_of}
-use Rattle.kc_machine_spec.specs.Text.{finals, trace_of}
-use Rattle.kc_profile.specs.Sights.{history}
-use Rattle.kc_profile.specs.Statistics.{AreStatisticsOf}
 use Rattle.kc_cycles.specs.declared.lives.LivesFault.TheVariants as fault
 use Rattle.kc_kit_running.specs.Fitted.{FittedUnit, fitted_further}
 use Rattle.kc_kit_running.specs.Passing.{HasFailed, HasPassed}
 use Rattle.kc_kit_running.specs.Profiled.{Run, known, once}
 use Rattle.kc_profile.proofs.Few.{few-more}
-use Rattle.kc_kit_running.proofs.ProfileLemmas.{machine-begins, never-begun, once-broken, once-passed, once-shown, once-start, once-statistics, once-texts, once-wanting}
+use Rattle.kc_kit_running.proofs.ProfileLemmas.{machine-begins, never-begun, once-broken, once-cut, once-passed, once-shown, once-start, once-statistics, once-texts, once-wanting}
 use Rattle.kc_kit_running.proofs.RunLemmas.{HasRun-start, Puts-trace}
 use Rattle.kc_kit_running.proofs.profile_run.watch_once.Goals as goal
 
@@ -90,4 +84,4 @@ returns-clause-failed g c =
     let new = out_of g.S.Sink.written g.S.Sink.faults c.write_finals.new.out in
     let put = Puts-trace ran old _ new c.in-Ok-run_profiled.how n c.in-Ok-run_profiled.ensures.end c.in-Ok-run_profiled.ensures.machine c.run_profiled.ensures.lines c.write_finals.ensures.lines in
     subst (λ (run : Run). HasFailed run old fault.WriteFault new) (once-start c.args.states k c.args.board.driving c.args.board.image m c.in-Ok-fitted_machine.ensures)
-    (put, c.in-Err.ensures.failed)
+    (once-cut c.args.states k m old new put c.in-Err.ensures.failed)
