@@ -13,7 +13,7 @@ use Rattle.kc_events.specs.Reporting.{IsFirstWrong}
 use Rattle.kc_events.proofs.SomeTrace.{some_wrong, some_run}
 use Rattle.kc_vcd.specs.Dumped.{IsDumped}
 use Rattle.kc_kit_files.specs.declared.refusal.Refusal.{Refusal}
-use Rattle.kc_kit_files.specs.Response.{Response, write, done_writing, Then, IsRefused}
+use Rattle.kc_kit_files.specs.Response.{Response, write, done_writing, IsRefused}
 use Rattle.kc_kit_files.specs.Reads.{read_response, MissedRead}
 use Rattle.kc_kit_files.proofs.ReadLemmas.{refused-widen}
 use Rattle.kc_kit_words.specs.declared.inputs.Role.{Role}

@@ -4,7 +4,6 @@ pub mod CoverLemmas
 pub mod CoverSources
 pub mod DebugLemmas
 pub mod DumpLemmas
-pub mod EndedLemmas
 pub mod HelpLemmas
 pub mod HexLengths
 pub mod LinesLemmas

@@ -1,8 +1,6 @@
 -- What is left to do once a command's files are read and checked (this kit's own).
 use Rattle.std.specs.Prelude.{◌≡◌, ℕ, ◌≤◌, Bool, true, false, List, [], ◌∷◌, ◌++◌, Option, Some, None, Result, Ok, Err}
-use Rattle.std.specs.Global.{Vec}
 use Rattle.kc_code.specs.Listing.{listing}
-use Rattle.kc_debug_script.specs.declared.line_map.MapEntry.{MapEntry}
 use Rattle.kc_base.specs.Held.{Holding}
 use Rattle.kc_base.specs.Limits.{image_start}
 use Rattle.kc_obj_module.specs.Object.{Object}

@@ -1,5 +1,5 @@
 -- The commands that run a board and write where its states go (this kit's own).
-use Rattle.std.specs.Prelude.{◌≡◌, ℕ, List, [], map, Result, Some, None}
+use Rattle.std.specs.Prelude.{◌≡◌, ℕ, List, map, Result, Some, None}
 use Rattle.kc_obj_module.specs.Object.{Object}
 use Rattle.kc_link_place.specs.declared.ranges.Ranges.{Ranges}
 use Rattle.kc_link_place.specs.Placing.{Places, bases_from}

@@ -1,13 +1,16 @@
 // What is left to do once a command's files are read and checked.
 ghost use Rattle.std.specs.Prelude.{◌≡◌, ◌≤◌, ◌∷◌, ◌++◌, false};
+ghost use Rattle.kc_base.specs.Limits.{image_start};
 ghost use Rattle.kc_kit_files.specs.Ended.{Ends, EndsPrinting};
 ghost use Rattle.kc_kit_files.specs.Outside.{kept, shown_by};
 ghost use Rattle.kc_kit_files.specs.Response.{reports};
-ghost use Rattle.kc_kit_words.specs.Asked.{behind_in, IsBounded};
+ghost use Rattle.kc_kit_words.specs.Asked.{behind_in, AreLives, IsBounded};
 ghost use Rattle.kc_kit_running.specs.Lives.{board_response};
 ghost use Rattle.kc_kit_running.specs.Profiled.{known, profile_response};
+ghost use Rattle.kc_kit_running.specs.Scripted.{debugger_response};
 ghost use Rattle.kc_kit_running.specs.Sources.{ArePlacedIn, lines_in};
 ghost use Rattle.kc_kit_running.specs.Writing.{AreWritten, written};
+ghost use Rattle.kc_kit_answer.specs.Hex.{ListingOf};
 ghost use Rattle.kc_kit_answer.specs.Jobs.{IsDoable, does, maybe_written, status_of};
 
 use crate::list::list_image;
@@ -92,13 +95,13 @@ pub fn perform<'a, F: Files, S: Sink>(
         Job::Count { board, number } => {
             count_board::<S, Brand>(alloc, board, number, Blank::new(1), out)
         }
-        Job::List { image, first, last } => Ended::by(list_image(&image, first, last, out)),
+        Job::List { image, first, last } => listing_of_image(image, first, last, out),
         Job::Debug {
             board,
             lives,
             script,
             lines,
-        } => debug_board::<S, Brand>(alloc, board, lives, &script, lines, Blank::new(1), out),
+        } => script_of_board(alloc, board, lives, script, lines, out),
         Job::Report { verdict } => report_verdict(out, verdict),
         Job::Write { file, lines, map } => write_files(alloc, &file, &lines, &map, files),
     }
@@ -138,6 +141,37 @@ fn profile_of_board<'a, F: Files, S: Sink>(
 {
     let blank = Blank::new(1);
     profile_board::<F, S, Brand>(alloc, board, extent, &lines, behind, blank, files, out)
+}
+
+// Lists an image.
+fn listing_of_image<S: Sink>(
+    image: Image,
+    first: u16,
+    last: u16,
+    out: &mut TraceOut<S>,
+) -> Ended<'static>
+    requires ready { out.old.failed ≡ false }
+    requires first { image_start ≤ first }
+    requires order { first ≤ last }
+    ensures { EndsPrinting (ListingOf first last image) (shown_by S.written S.faults out.old.sink) result (shown_by S.written S.faults out.new.sink) }
+{
+    Ended::by(list_image(&image, first, last, out))
+}
+
+// Carries out a script over a board, over at most so many lives where their number is given.
+fn script_of_board<S: Sink>(
+    alloc: Global,
+    board: Board,
+    lives: Option<u16>,
+    script: Script,
+    lines: LineMap,
+    out: &mut TraceOut<S>,
+) -> Ended<'static>
+    requires ready { out.old.failed ≡ false }
+    requires lives { AreLives lives }
+    ensures { EndsPrinting (λ response. response ≡ debugger_response lives lines script board.driving board.image) (shown_by S.written S.faults out.old.sink) result (shown_by S.written S.faults out.new.sink) }
+{
+    debug_board::<S, Brand>(alloc, board, lives, &script, lines, Blank::new(1), out)
 }
 
 // Prints a verdict, with what is said of it.

@@ -1,4 +1,4 @@
-use Rattle.std.proofs.Common.{◌≡◌, ◌≢◌, List, ℕ, [], ◌∷◌, None, Some, sym, ◌∙◌, subst, arith}
+use Rattle.std.proofs.Common.{◌≡◌, ◌≢◌, ◌∷◌, None, subst, arith}
 use Rattle.kc_base.specs.Causes.{Rose}
 use Rattle.kc_base.specs.Held.{Reported}
 use Rattle.kc_kit_files.proofs.ReadLemmas.{stays-onward}

@@ -1,4 +1,4 @@
-use Rattle.std.proofs.Common.{◌≡◌, ◌++◌, rules, sym, ◌∙◌, arith}
+use Rattle.std.proofs.Common.{rules, sym, ◌∙◌, arith}
 use Rattle.std.proofs.lemmas.Bool.Decides.{nat_tests}
 use Rattle.kc_kit_answer.proofs.CoverLemmas.{goes_on}
 use Rattle.kc_kit_answer.proofs.cover.add_from.Goals as goal

@@ -1,18 +1,16 @@
-use Rattle.std.proofs.Common.{◌≡◌, ◌∷◌, ◌++◌, ◌∙◌, refl, ap, sym}
-use Rattle.kc_code.specs.Listing.{listing}
-use Rattle.kc_kit_files.specs.declared.status.Status.TheVariants as status
-use Rattle.kc_kit_files.specs.Response.{Response, says, reports}
+use Rattle.std.proofs.Common.{◌≡◌, ◌∷◌, ◌++◌, ◌∙◌, ap, sym}
+use Rattle.kc_kit_files.specs.Response.{Response, reports}
 use Rattle.kc_kit_files.specs.Outside.{kept, shown}
 use Rattle.kc_kit_words.specs.Asked.{behind_in}
 use Rattle.kc_kit_running.specs.Scripted.{debugger_response}
 use Rattle.kc_kit_running.specs.Sources.{lines_in}
 use Rattle.kc_kit_running.specs.Writing.{written}
+use Rattle.kc_kit_answer.specs.Hex.{ListingOf}
 use Rattle.kc_kit_answer.specs.Jobs.{does, maybe_written, status_of}
 use Rattle.kc_kit_running.specs.Counted.{summary_of}
 use Rattle.kc_kit_running.specs.Lives.{board_response}
 use Rattle.kc_kit_running.specs.Profiled.{known, profile_response}
 use Rattle.kc_kit_files.proofs.EndLemmas.{Ends-widen}
-use Rattle.kc_kit_answer.proofs.EndedLemmas.{ends-printed}
 use Rattle.kc_kit_answer.proofs.WriteLemmas.{ends-written}
 use Rattle.kc_kit_answer.proofs.job.perform.Goals as goal
 
@@ -28,13 +26,13 @@ returns-in-Count-clause-answer g c =
 
 pub returns-in-List-clause-answer : goal.returns-in-List-clause-answer
 returns-in-List-clause-answer g c =
-    ends-printed (says status.Done (listing c.in-List.image c.in-List.first c.in-List.last)) c.args.job _ _ c.by.result c.list_image.result _ _ (record { none = refl; silent = refl }) (sym (ap does c.in-List.is)) c.by.ensures.status c.by.ensures.said
-    (c.list_image.ensures (kept (g.F.Files.held c.args.files.now) (g.F.Files.write_faults c.args.files.now)))
+    Ends-widen (ListingOf c.in-List.first c.in-List.last c.in-List.image) (λ (response : Response). response ≡ does c.args.job) _ _ c.listing_of_image.result.status c.listing_of_image.result.said _ _ (λ r k. k ∙ sym (ap does c.in-List.is))
+    (c.listing_of_image.ensures (kept (g.F.Files.held c.args.files.now) (g.F.Files.write_faults c.args.files.now)))
 
 pub returns-in-Debug-clause-answer : goal.returns-in-Debug-clause-answer
 returns-in-Debug-clause-answer g c =
     Ends-widen (λ (response : Response). response ≡ debugger_response c.in-Debug.lives c.in-Debug.lines c.in-Debug.script c.in-Debug.board.driving c.in-Debug.board.image) (λ (response : Response). response ≡ does c.args.job) _ _
-    c.debug_board.result.status c.debug_board.result.said _ _ (λ r k. k ∙ sym (ap does c.in-Debug.is)) (c.debug_board.ensures (kept (g.F.Files.held c.args.files.now) (g.F.Files.write_faults c.args.files.now)))
+    c.script_of_board.result.status c.script_of_board.result.said _ _ (λ r k. k ∙ sym (ap does c.in-Debug.is)) (c.script_of_board.ensures (kept (g.F.Files.held c.args.files.now) (g.F.Files.write_faults c.args.files.now)))
 
 pub returns-in-Report-clause-answer : goal.returns-in-Report-clause-answer
 returns-in-Report-clause-answer g c =

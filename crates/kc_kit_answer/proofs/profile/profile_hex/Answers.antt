@@ -1,4 +1,4 @@
-use Rattle.std.proofs.Common.{◌≡◌, subst, sym, ℕ, List, [], Some, None}
+use Rattle.std.proofs.Common.{◌≡◌, subst, sym, ℕ, List, Some, None}
 use Rattle.kc_kit_files.specs.Response.{Response, IsRefused}
 use Rattle.kc_kit_inputs.specs.declared.driving.Driving.{Driving}
 use Rattle.kc_kit_words.specs.Commands.{Behind}
