@@ -27,7 +27,7 @@ use kc_kit_answer::{
 };
 use kc_kit_files::{Ended, Refusal, Status, refuse, say};
 use kc_kit_streams::Streams;
-use kc_kit_words::{Command, put_usage, read_words};
+use kc_kit_words::{Command, Generate, put_usage, read_words};
 use kc_trace::TraceOut;
 use std::alloc::Global;
 
@@ -171,10 +171,7 @@ fn done<'a, F: Streams, S: Sink>(
             let prepared = prepare_debug(alloc, debug, files);
             finish(alloc, prepared, files, out)
         }
-        Command::Generate(generate) => {
-            let prepared = prepare_generate(alloc, generate.number);
-            finish(alloc, prepared, files, out)
-        }
+        Command::Generate(generate) => generated(alloc, generate, files, out),
         Command::Dump(dump) => {
             let prepared = prepare_dump(alloc, dump, files);
             finish(alloc, prepared, files, out)
@@ -185,6 +182,21 @@ fn done<'a, F: Streams, S: Sink>(
         }
         Command::Explain(explain) => explain_code(alloc, explain.code, out),
     }
+}
+
+// Does the command that makes an input of its number: it reads no file.
+fn generated<F: Files, S: Sink>(
+    alloc: Global,
+    generate: &Generate,
+    files: &mut F,
+    out: &mut TraceOut<S>,
+) -> Ended<'static>
+    requires { out.old.failed ≡ false }
+    ensures { Ends F.held F.write_faults S.written S.faults (MayAnswerBy IsFaultDiagnostic F.held F.read_faults (Some (asked (Command.Generate generate.now))) files.old files.new)
+        files.old out.old.sink result files.new out.new.sink }
+{
+    let prepared = prepare_generate(alloc, generate.number);
+    finish(alloc, prepared, files, out)
 }
 
 // Does what is prepared, or prints its refusal.

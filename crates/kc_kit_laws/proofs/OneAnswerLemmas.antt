@@ -1,6 +1,6 @@
 -- A command has one answer and one diagnostic: each step gives one thing, by the laws of texts, images, line maps, instructions and libraries.
 use Rattle.std.specs.Prelude.{codes}
-use Rattle.std.proofs.Common.{◌≡◌, inl, inr, ℕ, List, [], ◌∷◌, ◌++◌, length, take, drop, Option, Some, None, Result, Ok, Err, map, refl, sym, ◌∙◌, ap, subst, arith}
+use Rattle.std.proofs.Common.{◌≡◌, inl, inr, ℕ, List, [], ◌∷◌, ◌++◌, length, take, drop, Option, Some, None, Result, Ok, Err, refl, sym, ◌∙◌, ap, subst, arith}
 use Rattle.kc_source.specs.Faults.{Fault}
 use Rattle.kc_code.specs.Listing.{listing}
 use Rattle.kc_stim.specs.Drives.{Drives}

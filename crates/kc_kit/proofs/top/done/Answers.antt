@@ -6,13 +6,12 @@ use Rattle.kc_kit_files.specs.Outside.{kept}
 use Rattle.kc_kit_files.proofs.EndLemmas.{Ends-widen}
 use Rattle.kc_kit.proofs.Ending.{printed}
 use Rattle.kc_kit_words.specs.Asked.{asked}
+use Rattle.kc_kit_words.specs.declared.command.Command.TheVariants as command
 use Rattle.kc_kit_inputs.specs.FaultDiagnostics.{IsFaultDiagnostic}
 use Rattle.kc_kit_answer.specs.Answer.{MayAnswer}
 use Rattle.kc_kit_answer.specs.Explain.{explained}
-use Rattle.kc_kit_answer.specs.Generate.{GenerateAnswer}
 use Rattle.kc_kit_answer.specs.Help.{help_text, help_on}
-use Rattle.kc_kit_answer.specs.Jobs.{IsOf}
-use Rattle.kc_kit_answer.proofs.AnswerSteps.{holds-none, finished, prepared-of}
+use Rattle.kc_kit_answer.proofs.AnswerSteps.{holds-none, finished}
 use Rattle.kc_kit.proofs.top.done.Goals as goal
 
 pub returns-in-Help : goal.returns-in-Help
@@ -87,11 +86,9 @@ returns-in-Debug g c =
 pub returns-in-Generate : goal.returns-in-Generate
 returns-in-Generate g c =
     let reported = g.F.Files.held c.args.files.now in
-    let rose : Type 0 = Rose (g.F.Files.read_faults c.args.files.now) (g.F.Files.read_faults c.finish-in-Generate.new.files) in
-    Ends-widen (IsOf c.prepare_generate-prepared.result) (MayAnswer IsFaultDiagnostic (Some (asked c.args.command.now)) reported rose) _ _ _ _ _ _
-    (λ r e. subst (λ k. MayAnswer IsFaultDiagnostic (Some (asked k)) reported rose r) (sym c.in-Generate.is)
-    ([], holds-none reported, inl (prepared-of (GenerateAnswer IsFaultDiagnostic c.in-Generate.generate.number) c.prepare_generate-prepared.result c.prepare_generate-prepared.ensures r e)))
-    c.finish-in-Generate.ensures.answer
+    let rose : Type 0 = Rose (g.F.Files.read_faults c.args.files.now) (g.F.Files.read_faults c.generated.new.files) in
+    Ends-widen (MayAnswer IsFaultDiagnostic (Some (asked (command.Generate c.in-Generate.generate))) reported rose) (MayAnswer IsFaultDiagnostic (Some (asked c.args.command.now)) reported rose) _ _ _ _ _ _
+    (λ r e. subst (λ k. MayAnswer IsFaultDiagnostic (Some (asked k)) reported rose r) (sym c.in-Generate.is) e) c.generated.ensures
 
 pub returns-in-Dump : goal.returns-in-Dump
 returns-in-Dump g c =
