@@ -14,5 +14,5 @@ pub returns : goal.returns
 returns g c =
     let reported = g.F.Files.held c.args.files.now in
     let rose : Type 0 = Rose (g.F.Files.read_faults c.args.files.now) (g.F.Files.read_faults c.finish.new.files) in
-    Ends-widen (IsOf c.prepare_generate-prepared.result) (MayAnswer IsFaultDiagnostic (Some (asked (command.Generate c.args.generate.now))) reported rose) _ _ _ _ _ _
-    (λ r e. ([], holds-none reported, inl (prepared-of (GenerateAnswer IsFaultDiagnostic c.args.generate.now.number) c.prepare_generate-prepared.result c.prepare_generate-prepared.ensures r e))) c.finish.ensures.answer
+    Ends-widen (IsOf c.prepare_generate.result) (MayAnswer IsFaultDiagnostic (Some (asked (command.Generate c.args.generate.now))) reported rose) _ _ _ _ _ _
+    (λ r e. ([], holds-none reported, inl (prepared-of (GenerateAnswer IsFaultDiagnostic c.args.generate.now.number) c.prepare_generate.result c.prepare_generate.ensures r e))) c.finish.ensures.answer
