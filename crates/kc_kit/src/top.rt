@@ -16,7 +16,7 @@ ghost use Rattle.kc_kit_words.specs.Words.{command_of};
 ghost use Rattle.kc_kit_words.specs.Asked.{asked, IsWithin};
 ghost use Rattle.kc_kit_words.specs.Commands.{names_read, names_written};
 ghost use Rattle.kc_kit_answer.specs.Answer.{MayAnswerBy, IsAccepted, EndsAccepted, StaysBut};
-ghost use Rattle.kc_kit_answer.specs.Jobs.{IsDoable, IsOf, IsReady};
+ghost use Rattle.kc_kit_answer.specs.Jobs.{IsOf, IsReady};
 ghost use Rattle.kc_kit_answer.specs.Lines.{usage_line};
 
 use kc_base::{Files, Sink};
