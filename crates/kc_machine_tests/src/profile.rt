@@ -1,6 +1,7 @@
 // A program that is entered, served and idle, with the numbers of a model in another language.
 ghost use Rattle.std.specs.Prelude.{◌≡◌, ◌+◌, ◌≤◌, false, OnOk};
 ghost use Rattle.kc_base.specs.Fresh.{IsFresh};
+ghost use Rattle.kc_profile.specs.Statistics.{AreAllFew};
 ghost use Rattle.kc_profile.specs.Tally.{total};
 
 use crate::board::machine_of;
@@ -47,9 +48,11 @@ fn go<L: Ledger>(
     requires unbroken { out.old.failed ≡ false }
     requires time { machine.old.machine.time ≤ 1000 }
     requires counted { total profile.old ≤ 1000 }
+    requires few { AreAllFew 1000 statistics.old }
     ensures unbroken { OnOk result (out.new.failed ≡ false) }
     ensures time { machine.new.machine.time ≤ 1000 }
     ensures counted { total profile.new ≤ total profile.old + 1000 }
+    ensures few { AreAllFew 0 statistics.old → AreAllFew 1000 statistics.new }
 {
     match run_profiled(machine, profile, statistics, until, out, steps) {
         Ok(_) => Ok(()),
