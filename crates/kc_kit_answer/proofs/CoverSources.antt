@@ -3,7 +3,7 @@ use Rattle.std.proofs.Common.{◌≡◌, ℕ, zero, suc, ◌+◌, ◌<◌, ◌�
 use Rattle.std.proofs.lemmas.List.{append_assoc, append-nil}
 use Rattle.kc_obj_module.specs.Object.{Object}
 use Rattle.kc_link_place.specs.BaseLists.{BaseLists}
-use Rattle.kc_cover.specs.declared.source.Source.{Source}
+use Rattle.kc_profile.specs.declared.source.Source.{Source}
 use Rattle.kc_kit_inputs.specs.Sources.{AreModules}
 use Rattle.kc_kit_answer.specs.Cover.{AreSources, IsSource}
 
