@@ -1,3 +1,5 @@
+//! Laws of how deep the lines of an expansion stand.
+
 ghost use Rattle.kc_asm_list.specs.Laws.{DepthsGoWithLines, PlainLinesStandAtNone};
 
 use kc_macro::laws::expansion_ends;

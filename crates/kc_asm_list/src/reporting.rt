@@ -1,3 +1,5 @@
+//! How deep the lines of an expansion stand in calls and repetitions.
+
 ghost use Rattle.std.specs.Prelude.{◌≡◌, [], suc, length, IfOk};
 ghost use Rattle.kc_macro.specs.Expansion as expansion;
 ghost use Rattle.kc_macro.specs.Steps as steps;
