@@ -20,7 +20,7 @@ use Rattle.kc_asm_section.specs.OneModule.{OneModule}
 use Rattle.kc_link_place.specs.declared.ranges.LinkFault.{LinkFault}
 use Rattle.kc_link_place.specs.Placing.{Places, bases_of}
 use Rattle.kc_link.specs.Placed.{placed}
-use Rattle.kc_link_unlinked_laws.specs.Parts.{part_bases}
+use Rattle.kc_asm_unlinked_laws.specs.Parts.{part_bases}
 use Rattle.kc_asm_layout.specs.declared.location.Location.{Location}
 use Rattle.kc_asm_check.specs.Checking.{standing}
 use Rattle.kc_asm_unlinked_laws.specs.Collecting.{IsUnlinkedModuleOf}

@@ -18,8 +18,8 @@ use Rattle.kc_asm_section.specs.UnlinkedModules.{IsUnlinkedModule}
 use Rattle.kc_asm_section.specs.Order.{start_of}
 use Rattle.kc_asm_section.specs.Numbers.{NumbersStand}
 use Rattle.kc_link_place.specs.Placing.{Places, bases_of}
-use Rattle.kc_link_unlinked_laws.specs.Parts.{start, part_bases}
-use Rattle.kc_link_unlinked_laws.specs.Linked.{HoldsUnlinkedModule, FitsUnlinkedModule, StandsAbsolute, AreModulesOf, AreSettled, AreLinked, IsCovered, UnlinkedModulesAreLinked, HeldIsRead, NumbersFit, AbsolutePartsStand}
+use Rattle.kc_asm_unlinked_laws.specs.Parts.{start, part_bases}
+use Rattle.kc_asm_unlinked_laws.specs.Linked.{HoldsUnlinkedModule, FitsUnlinkedModule, StandsAbsolute, AreModulesOf, AreSettled, AreLinked, IsCovered, UnlinkedModulesAreLinked, HeldIsRead, NumbersFit, AbsolutePartsStand}
 use Rattle.kc_asm_emit.specs.Content.{Content, content, RelocatableBytes}
 use Rattle.kc_asm_emit.specs.Faults.{faults_of}
 use Rattle.kc_asm_layout.specs.declared.location.Location.{Location}

@@ -20,7 +20,7 @@ use Rattle.kc_asm_encode.specs.Words.{insn_of}
 use Rattle.kc_asm_encode.specs.RelocatableBytes.{insn_relocatables, all_relocatable_bytes}
 use Rattle.kc_asm_encode.specs.Said.{said}
 use Rattle.kc_link_place.specs.Placing.{bases_of}
-use Rattle.kc_link_unlinked_laws.specs.Parts.{part_bases}
+use Rattle.kc_asm_unlinked_laws.specs.Parts.{part_bases}
 use Rattle.kc_asm_emit.specs.Arguments.{Look, fixed_of, arguments}
 use Rattle.kc_asm_emit.specs.Content.{content, reserved, upto}
 use Rattle.kc_asm_check.specs.Checking.{standing}

@@ -24,9 +24,9 @@ use Rattle.kc_asm_section.specs.Order.{relocation, aims_at, is_named, number_of,
 use Rattle.kc_asm_section.specs.ModuleOf.{IsModuleOf, kept_in, pieces_in}
 use Rattle.kc_asm_section.specs.Numbers.{NumbersStand}
 use Rattle.kc_link_place.specs.Placing.{Places, base_lists, bases_of, base_at}
-use Rattle.kc_link_unlinked_laws.specs.Parts.{StandsIn, start, part_bases}
-use Rattle.kc_link_unlinked_laws.specs.Linked.{FitsUnlinkedModule}
-use Rattle.kc_link_unlinked_laws.proofs.PlacedBytes.{three_parts, part_of, own_or_absolute}
+use Rattle.kc_asm_unlinked_laws.specs.Parts.{StandsIn, start, part_bases}
+use Rattle.kc_asm_unlinked_laws.specs.Linked.{FitsUnlinkedModule}
+use Rattle.kc_asm_unlinked_laws.proofs.PlacedBytes.{three_parts, part_of, own_or_absolute}
 use Rattle.kc_asm.proofs.Evens.{HasEvenBase, IsEvenAt, AllEven}
 
 -- ---- which pieces numbers of one byte count from

@@ -25,9 +25,9 @@ use Rattle.kc_asm_section.specs.declared.unlinked.UnlinkedModule.{UnlinkedModule
 use Rattle.kc_asm_section.specs.Section.{Section, relocatable_byte_at}
 use Rattle.kc_asm_section.specs.UnlinkedModules.{IsUnlinkedModule}
 use Rattle.kc_asm_section.specs.Order.{start_of}
-use Rattle.kc_link_unlinked_laws.specs.Parts.{start, part_bases}
-use Rattle.kc_link_unlinked_laws.specs.Linked.{HoldsUnlinkedModule, StandsAbsolute, HeldIsRead}
-use Rattle.kc_link_unlinked_laws.proofs.PlacedBytes.{own_or_absolute}
+use Rattle.kc_asm_unlinked_laws.specs.Parts.{start, part_bases}
+use Rattle.kc_asm_unlinked_laws.specs.Linked.{HoldsUnlinkedModule, StandsAbsolute, HeldIsRead}
+use Rattle.kc_asm_unlinked_laws.proofs.PlacedBytes.{own_or_absolute}
 use Rattle.kc_asm_emit.specs.Arguments.{Look, arguments}
 use Rattle.kc_asm_emit.specs.Content.{Content, Nothing, RelocatableBytes, Reserved, Upto, Even as Content_Even, content, data_relocatables}
 use Rattle.kc_asm_emit.specs.Faults.{faults_of, operand_faults}

@@ -12,7 +12,7 @@ use Rattle.kc_asm_symbols.specs.Meanings.{meaning}
 use Rattle.kc_obj_module.specs.Numbers.{Bases}
 use Rattle.kc_branch.specs.declared.piece.Form.TheVariants.{First}
 use Rattle.kc_asm_section.specs.declared.unlinked.UnlinkedModule.{UnlinkedModule}
-use Rattle.kc_link_unlinked_laws.specs.Parts.{start, part_bases}
+use Rattle.kc_asm_unlinked_laws.specs.Parts.{start, part_bases}
 use Rattle.kc_asm_layout.specs.declared.size_record.Body.TheVariants.{Bytes}
 use Rattle.kc_asm_layout.specs.declared.location.Location.{Location}
 use Rattle.kc_asm_check.specs.Checking.{first_fault}

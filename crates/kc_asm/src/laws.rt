@@ -11,13 +11,11 @@ use kc_asm_encode::laws::{
 use kc_asm_layout::sizes_have_lengths;
 use kc_asm_section::{numbers_stand, one_module};
 use kc_asm_unlinked_laws::{
-    nothing_else_stands, statements_stand, unlinked_modules_are_settled,
-    unlinked_modules_are_unlinked, unlinked_modules_are_whole,
+    absolute_parts_stand, held_is_read, nothing_else_stands, numbers_fit, statements_stand,
+    unlinked_modules_are_linked, unlinked_modules_are_settled, unlinked_modules_are_unlinked,
+    unlinked_modules_are_whole,
 };
 use kc_code::{one_spelling, spelled_is_decoded};
-use kc_link_unlinked_laws::{
-    absolute_parts_stand, held_is_read, numbers_fit, unlinked_modules_are_linked,
-};
 use kc_source_statement::statements_are_formed;
 
 /// The image that is filled from the modules of sources without a fault, where their pieces are placed, is linked: at the

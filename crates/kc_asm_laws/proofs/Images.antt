@@ -19,9 +19,9 @@ use Rattle.kc_link.specs.Placed.{placed}
 use Rattle.kc_link.specs.Filled.{IsFilled}
 use Rattle.kc_link.specs.Laws.{OneImage as OneFilled}
 use Rattle.kc_link.specs.Linked.{PlacedHaveImage}
-use Rattle.kc_link_unlinked_laws.specs.Parts.{start, part_bases}
-use Rattle.kc_link_unlinked_laws.specs.Linked.{IsCovered, AreLinked, UnlinkedModulesAreLinked}
-use Rattle.kc_link_unlinked_laws.specs.Linked as unlinked_modules
+use Rattle.kc_asm_unlinked_laws.specs.Parts.{start, part_bases}
+use Rattle.kc_asm_unlinked_laws.specs.Linked.{IsCovered, AreLinked, UnlinkedModulesAreLinked}
+use Rattle.kc_asm_unlinked_laws.specs.Linked as unlinked_modules
 use Rattle.kc_asm_unlinked_laws.specs.Sound.{UnlinkedModulesAreUnlinked, UnlinkedModulesAreWhole}
 use Rattle.kc_asm_unlinked_laws.specs.Stood.{NothingElseStands}
 use Rattle.kc_asm.specs.Assembled.{AreSaid, IsModule}

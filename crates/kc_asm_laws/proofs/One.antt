@@ -4,7 +4,7 @@ use Rattle.std.specs.Prelude.{Option, Some, Result, Ok, if◌then◌else◌}
 use Rattle.kc_lex.specs.declared.token.Line.{Line}
 use Rattle.kc_lex.specs.Lines.{lines_of}
 use Rattle.kc_macro.specs.Expansion.{expanded}
-use Rattle.kc_macro_depth.specs.Depths.{depths_of}
+use Rattle.kc_asm_list.specs.Depths.{depths_of}
 use Rattle.kc_source_statement.specs.declared.statement.Action.{Action}
 use Rattle.kc_source_statement.specs.declared.statement.Action.TheVariants as action
 use Rattle.kc_source_statement.specs.declared.statement.Stmt.{Stmt}

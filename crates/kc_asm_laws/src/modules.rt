@@ -10,11 +10,10 @@ use kc_asm_encode::laws::numbers_are_words;
 use kc_asm_section::one_module;
 use kc_asm_symbols::externals_are_few;
 use kc_asm_unlinked_laws::{
-    nothing_else_stands, parts_are_writable, pieces_are_few, unlinked_modules_are_unlinked,
-    unlinked_modules_are_whole,
+    nothing_else_stands, parts_are_writable, pieces_are_few, unlinked_modules_are_linked,
+    unlinked_modules_are_unlinked, unlinked_modules_are_whole,
 };
 use kc_link::{one_image as one_filled_image, placed_have_image};
-use kc_link_unlinked_laws::unlinked_modules_are_linked;
 use kc_macro::laws::expansion_ends;
 use kc_source_laws::{sources_are_read_well, statements_are_of_the_text};
 

@@ -5,3 +5,7 @@ mod Order
 pub mod Places
 mod Sorted
 mod Steps
+pub mod Course
+pub mod Grown
+pub mod Agreement
+pub mod Plain

@@ -7,7 +7,7 @@ use Rattle.kc_lex.specs.declared.fault.SourceFault.{SourceFault}
 use Rattle.kc_lex.specs.declared.fault.SourceFault.TheVariants as faults
 use Rattle.kc_lex.specs.Lines.{lines_of}
 use Rattle.kc_macro.specs.Expansion.{IsExpanded, expanded}
-use Rattle.kc_macro_depth.specs.Depths.{GoWith}
+use Rattle.kc_asm_list.specs.Depths.{GoWith}
 use Rattle.kc_source.specs.Faults.{IsStatements}
 use Rattle.kc_asm_list.specs.declared.listed.Standing.{Standing}
 use Rattle.kc_asm_list.specs.Listed.{IsFaultOf, IsStanding}

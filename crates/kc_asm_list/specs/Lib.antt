@@ -3,3 +3,5 @@ pub mod Listed
 pub mod RelocatableBytes
 pub mod Rows
 pub mod Order
+pub mod Depths
+pub mod Laws

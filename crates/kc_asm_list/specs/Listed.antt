@@ -6,7 +6,7 @@ use Rattle.kc_lex.specs.declared.fault.SourceFault.{SourceFault}
 use Rattle.kc_lex.specs.declared.fault.SourceFault.TheVariants as faults
 use Rattle.kc_lex.specs.Lines.{lines_of}
 use Rattle.kc_macro.specs.Expansion.{expanded}
-use Rattle.kc_macro_depth.specs.Depths.{depths_of}
+use Rattle.kc_asm_list.specs.Depths.{depths_of}
 use Rattle.kc_source_statement.specs.declared.statement.Action.{Action}
 use Rattle.kc_source_statement.specs.declared.statement.Action.TheVariants as action
 use Rattle.kc_source_statement.specs.declared.statement.Stmt.{Stmt}

@@ -2,6 +2,7 @@ ghost use Rattle.std.specs.Prelude.{◌≡◌, ◌≤◌, length, IfOk};
 ghost use Rattle.kc_base.specs.Limits.{file_limit};
 ghost use Rattle.kc_asm_list.specs.Listed as spec;
 
+use crate::reporting::depths;
 use crate::rows_listing::rows;
 use crate::spot::Spot;
 use crate::spots::spots_of;
@@ -9,7 +10,6 @@ use kc_asm_symbols::externals_are_few;
 use kc_base::NoMemory;
 use kc_lex::{SourceFault, lines};
 use kc_macro::expand;
-use kc_macro_depth::depths;
 use kc_obj_module::Module;
 use kc_source::statements;
 use kc_source_statement::{Action, Stmt};

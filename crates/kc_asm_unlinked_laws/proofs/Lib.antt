@@ -15,3 +15,10 @@ pub mod Naming
 pub mod UnlinkedModules
 pub mod Stood
 mod Few
+pub mod Appending
+pub mod PlacedBytes
+pub mod Linking
+pub mod FilledBytes
+pub mod Positions
+pub mod Reading
+pub mod Row

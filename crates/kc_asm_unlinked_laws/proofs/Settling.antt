@@ -21,8 +21,8 @@ use Rattle.kc_asm_section.specs.Order.{start_of}
 use Rattle.kc_asm_emit.specs.Arguments.{Look, value_in}
 use Rattle.kc_asm_emit.specs.Content.{RelocatableBytes, content}
 use Rattle.kc_asm_emit.specs.Faults.{faults_of, operand_faults}
-use Rattle.kc_link_unlinked_laws.specs.Settled.{HasNoMisfit}
-use Rattle.kc_link_unlinked_laws.specs.Growing.{NoMisfitStays, FitBehind}
+use Rattle.kc_asm_unlinked_laws.specs.Settled.{HasNoMisfit}
+use Rattle.kc_asm_unlinked_laws.specs.Growing.{NoMisfitStays, FitBehind}
 use Rattle.kc_asm_layout.specs.StatementSizes.{target, plain}
 use Rattle.kc_asm_layout.specs.SizesLaws.{SizesStay, SizesHaveLengths}
 use Rattle.kc_asm_layout.specs.declared.location.Location.{Location}

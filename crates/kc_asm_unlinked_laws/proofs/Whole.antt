@@ -16,8 +16,8 @@ use Rattle.kc_asm_section.specs.Section.{Section, is_section, blank, put, skippe
 use Rattle.kc_asm_section.specs.Writing.{WrittenStands, PutStands}
 use Rattle.kc_asm_emit.specs.Content.{RelocatableBytes, content}
 use Rattle.kc_asm_emit.specs.Pairing.{ArePaired, ContentsArePaired}
-use Rattle.kc_link_unlinked_laws.specs.Settled.{HasFirsts}
-use Rattle.kc_link_unlinked_laws.specs.Growing.{FirstsStay}
+use Rattle.kc_asm_unlinked_laws.specs.Settled.{HasFirsts}
+use Rattle.kc_asm_unlinked_laws.specs.Growing.{FirstsStay}
 use Rattle.kc_asm_layout.specs.SizesLaws.{SizesStay, SizesHaveLengths}
 use Rattle.kc_asm_layout.specs.declared.location.Location.{Location}
 use Rattle.kc_asm_check.specs.Codes.{Regions, first_regions}

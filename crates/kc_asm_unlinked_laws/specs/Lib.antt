@@ -3,3 +3,8 @@ pub mod Writable
 pub mod Sound
 pub mod Few
 pub mod Stood
+pub mod Growing
+pub mod Linked
+pub mod Parts
+pub mod Settled
+pub mod Worked

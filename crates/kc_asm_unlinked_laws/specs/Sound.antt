@@ -5,7 +5,7 @@ use Rattle.kc_asm_symbols.specs.Reported.{AreReadWell}
 use Rattle.kc_asm_section.specs.declared.unlinked.UnlinkedModule.{UnlinkedModule}
 use Rattle.kc_asm_section.specs.UnlinkedModules.{IsUnlinkedModule}
 use Rattle.kc_asm_section.specs.ModuleOf.{pieces_in}
-use Rattle.kc_link_unlinked_laws.specs.Settled.{IsWhole, IsSettled}
+use Rattle.kc_asm_unlinked_laws.specs.Settled.{IsWhole, IsSettled}
 use Rattle.kc_asm_check.specs.Checking.{first_fault}
 use Rattle.kc_asm_unlinked_laws.specs.Collecting.{IsUnlinkedModuleOf}
 

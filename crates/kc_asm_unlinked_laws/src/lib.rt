@@ -1,11 +1,16 @@
 //! The unlinked module that the statements of a source are, as a definition, and laws of it, without code: where a source has
-//! no fault, each number fits its bytes, and each byte is one of a statement at its place, or FFH in a gap. They stand on
-//! `kc_asm_check` and `kc_link_unlinked_laws`. Example: `CSEG AT 2080H`, `NOP`, `ORG 2084H`, `NOP` give FD FF FF FF FD.
+//! no fault, each number fits its bytes, and each byte is one of a statement at its place, or FFH in a gap. An image that is filled
+//! from the modules of unlinked modules holds each of their bytes at its place, filled under the bases of its module. They stand on
+//! `kc_asm_check` and `kc_link`. Example: `CSEG AT 2080H`, `NOP`, `ORG 2084H`, `NOP` give FD FF FF FF FD; a worked unlinked
+//! module, with its bytes in an image, stands in `specs/Worked.antt`.
 #![tactic(auto)]
 
 ghost use Rattle.kc_asm_unlinked_laws.specs.Few.{PiecesAreFew};
+ghost use Rattle.kc_asm_unlinked_laws.specs.Growing.{FirstsStay, NoMisfitStays};
+ghost use Rattle.kc_asm_unlinked_laws.specs.Linked.{AbsolutePartsStand, UnlinkedModulesAreLinked, HeldIsRead, NumbersFit};
 ghost use Rattle.kc_asm_unlinked_laws.specs.Sound.{UnlinkedModulesAreUnlinked, UnlinkedModulesAreSettled, UnlinkedModulesAreWhole};
 ghost use Rattle.kc_asm_unlinked_laws.specs.Stood.{NothingElseStands, StatementsStand};
+ghost use Rattle.kc_asm_unlinked_laws.specs.Worked.{WorkedUnlinked};
 ghost use Rattle.kc_asm_unlinked_laws.specs.Writable.{PartsAreWritable};
 
 use kc_asm_check::no_fault_no_codes;
@@ -13,7 +18,7 @@ use kc_asm_emit::{contents_are_paired, contents_are_relocatables};
 use kc_asm_layout::{sizes_have_lengths, sizes_stay};
 use kc_asm_section::{put_stands, written_stands};
 use kc_asm_symbols::bases_are_known;
-use kc_link_unlinked_laws::{firsts_stay, no_misfit_stays};
+use kc_link::{absolute_pieces_stand, relocations_fit};
 
 /// Where a source has no fault, what its statements write has room in its pieces.
 pub fn parts_are_writable()
@@ -91,3 +96,49 @@ pub fn nothing_else_stands()
     sizes_have_lengths();
     no_fault_no_codes();
 }
+
+// ---- the image that is filled from unlinked modules
+
+/// Where no rule of the linker is broken, each absolute part of an unlinked module stands at its address.
+pub fn absolute_parts_stand()
+    ensures { AbsolutePartsStand }
+{
+    absolute_pieces_stand();
+}
+
+/// The image that is filled from the modules of unlinked modules has each relocatable byte of each unlinked module at its place, filled under the bases
+/// of its module, and FFH where no unlinked module has a relocatable byte.
+pub fn unlinked_modules_are_linked()
+    ensures { UnlinkedModulesAreLinked }
+{
+    absolute_pieces_stand();
+}
+
+/// Relocatable bytes that stand one after the other in a part of an unlinked module are read one after the other, filled, from their place on in
+/// an image that holds the unlinked module.
+pub fn held_is_read()
+    ensures { HeldIsRead }
+{}
+
+/// Where no rule of the linker is broken, each number of each unlinked module fits its bytes.
+pub fn numbers_fit()
+    ensures { NumbersFit }
+{
+    absolute_pieces_stand();
+    relocations_fit();
+}
+
+/// In a part at whose end paired relocatable bytes are written each second byte of a number stands behind its first one.
+pub fn firsts_stay()
+    ensures { FirstsStay }
+{}
+
+/// A part at whose end relocatable bytes without misfits are written has no misfit.
+pub fn no_misfit_stays()
+    ensures { NoMisfitStays }
+{}
+
+/// Where the parts of a worked unlinked module stand, and some of its bytes.
+pub fn worked_unlinked()
+    ensures { WorkedUnlinked }
+{}

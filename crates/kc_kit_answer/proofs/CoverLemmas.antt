@@ -9,7 +9,7 @@ use Rattle.std.specs.List.Sorted.{IsStableByKey, ties}
 use Rattle.std.specs.Ordering.{is_lt, nat_cmp}
 use Rattle.std.specs.declared.cmp.Ordering.TheVariants.{Less, Equal, Greater}
 use Rattle.std.proofs.lemmas.Bool.Decides.{nat_tests}
-use Rattle.kc_cover.specs.declared.source.Instruction.{Instruction}
+use Rattle.kc_profile.specs.declared.source.Instruction.{Instruction}
 use Rattle.kc_base.specs.declared.types.NoMemory.{NoMemory}
 use Rattle.kc_isa.specs.declared.insn.Insn.{Insn}
 use Rattle.kc_code.specs.declared.reader.Decoded.TheVariants as decoded

@@ -7,7 +7,7 @@ use Rattle.kc_link_place.specs.BaseLists.{BaseLists}
 use Rattle.kc_link_place.specs.Placing.{Places, bases_from}
 use Rattle.kc_asm.specs.Assembled.{IsModule}
 use Rattle.kc_kit_messages.proofs.Words.{names_in, texts_in}
-use Rattle.kc_cover.specs.declared.source.Source.{Source}
+use Rattle.kc_profile.specs.declared.source.Source.{Source}
 use Rattle.kc_kit_inputs.specs.Sources.{AreModules}
 use Rattle.kc_kit_answer.specs.Cover.{AreSources, IsSource}
 

@@ -15,8 +15,8 @@ use Rattle.kc_link_place.specs.BaseLists.{BaseLists, bases_in}
 use Rattle.kc_profile.specs.Sights.{is_branch}
 use Rattle.kc_asm_list.specs.declared.spot.Spot.{Spot}
 use Rattle.kc_asm_list.specs.Listed.{AreInstructionsOf}
-use Rattle.kc_cover.specs.declared.source.Instruction.{Instruction}
-use Rattle.kc_cover.specs.declared.source.Source.{Source}
+use Rattle.kc_profile.specs.declared.source.Instruction.{Instruction}
+use Rattle.kc_profile.specs.declared.source.Source.{Source}
 
 -- ---- the addresses of a statement
 

@@ -12,12 +12,11 @@ ghost use Rattle.kc_kit_answer.specs.Cover as spec;
 use kc_asm_list::{Spot, instructions};
 use kc_base::{IMAGE_START, Image, NoMemory};
 use kc_code::{Decoded, decode};
-use kc_cover::{Instruction, Source};
 use kc_lex::SourceFault;
 use kc_link::Placement;
 use kc_link_place::Bases;
 use kc_obj_module::{Module, SegKind, Segment};
-use kc_profile::is_branch;
+use kc_profile::{Instruction, Source, is_branch};
 use std::alloc::Global;
 
 /// How many pieces can be numbered.

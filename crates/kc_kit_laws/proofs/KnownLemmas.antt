@@ -11,9 +11,9 @@ use Rattle.kc_link.specs.Linked.{OneLineMap}
 use Rattle.kc_asm_laws.specs.Laws.{OneInstructions}
 use Rattle.kc_asm_list.specs.declared.spot.Spot.{Spot}
 use Rattle.kc_profile.specs.Statistics.{Statistics, statistics_of, statistics_of_lives}
-use Rattle.kc_cover.specs.declared.source.Instruction.{Instruction}
-use Rattle.kc_cover.specs.declared.source.Source.{Source}
-use Rattle.kc_cover.specs.Cover.{test_line, jumps_text, sums_of_ways, all_ways, lines_text, lines_of, cover_text}
+use Rattle.kc_profile.specs.declared.source.Instruction.{Instruction}
+use Rattle.kc_profile.specs.declared.source.Source.{Source}
+use Rattle.kc_profile.specs.Cover.{test_line, jumps_text, sums_of_ways, all_ways, lines_text, lines_of, cover_text}
 use Rattle.kc_kit_files.specs.Response.{Response}
 use Rattle.kc_kit_words.specs.Commands.{Behind}
 use Rattle.kc_kit_words.specs.declared.extent.Extent.{Extent}

@@ -22,7 +22,7 @@ use Rattle.kc_profile.specs.Statistics.{Statistics, AreStatisticsOf, statistics_
 use Rattle.kc_profile.specs.Tally.{Tally, IsTallyOf, tally_of}
 use Rattle.kc_profile.proofs.Tallies.{tallies_are_one}
 use Rattle.kc_profile.proofs.StatisticsOne.{statistics_are_one}
-use Rattle.kc_cover.specs.Cover.{cover_text}
+use Rattle.kc_profile.specs.Cover.{cover_text}
 use Rattle.kc_kit_files.specs.declared.status.Status.{Status}
 use Rattle.kc_kit_files.specs.declared.status.Status.TheVariants as status
 use Rattle.kc_kit_files.specs.declared.ended.Ended.{Ended}

@@ -8,7 +8,7 @@ use Rattle.kc_profile.specs.Statistics.{Statistics, AreAllFew, statistics_of, st
 use Rattle.kc_profile.specs.Tally.{Tally, IsTallyOf, tally_of}
 use Rattle.kc_profile.proofs.Tallies.{tallies_are_one}
 use Rattle.kc_profile.proofs.StatisticsOne.{statistics_are_one}
-use Rattle.kc_cover.specs.Cover.{cover_text}
+use Rattle.kc_profile.specs.Cover.{cover_text}
 use Rattle.kc_kit_running.specs.Counting.{IsCount, IsSum}
 use Rattle.kc_profile.specs.declared.statistics_text.Scope.TheVariants as scope
 use Rattle.kc_kit_running.specs.Profiled.{Counted, Known, counted_text, heading, life_text, lives_cover, lives_profile, sums_text}

@@ -19,8 +19,8 @@ use Rattle.kc_profile.specs.Tally.{Tally, tally_of}
 use Rattle.kc_profile.specs.Text.{profile_text}
 use Rattle.kc_profile.specs.StatisticsText.{statistics_text}
 use Rattle.kc_profile.specs.Statistics.{Statistics, statistics_of, statistics_of_lives}
-use Rattle.kc_cover.specs.Cover.{cover_text}
-use Rattle.kc_cover.specs.declared.source.Source.{Source}
+use Rattle.kc_profile.specs.Cover.{cover_text}
+use Rattle.kc_profile.specs.declared.source.Source.{Source}
 use Rattle.kc_debug_script.specs.declared.line_map.MapEntry.{MapEntry}
 use Rattle.kc_kit_files.specs.Response.{Response, Write, write}
 use Rattle.kc_kit_words.specs.Commands.{Behind}

@@ -1,7 +1,7 @@
 // What is written behind a run: a profile, and which lines of the sources have run.
 ghost use Rattle.std.specs.Prelude.{◌≡◌, ◌+◌, ◌-◌, ◌^◌, ◌<◌, ◌≤◌, ◌++◌, [], ℕ, List, codes, IfOk, OnOk, Some, None};
 ghost use Rattle.std.specs.Option.{option_map};
-ghost use Rattle.kc_cover.specs.Cover.{cover_text};
+ghost use Rattle.kc_profile.specs.Cover.{cover_text};
 ghost use Rattle.kc_profile.specs.declared.spot.Spot as spots;
 ghost use Rattle.kc_profile.specs.declared.statistics_text.Scope.TheVariants as scopes;
 ghost use Rattle.kc_profile.specs.Statistics.{AreAllFew, with_life};
@@ -15,12 +15,11 @@ ghost use Rattle.kc_kit_running.specs.Writing.{AreWritten};
 use crate::output::{Output, write_output};
 use crate::sources::Sources;
 use kc_base::{Files, NoMemory, put_number};
-use kc_cover::{Source, put_sources};
 use kc_debug_script::MapEntry;
 use kc_kit_files::{Ended, Status};
 use kc_kit_words::Behind;
 use kc_machine::End;
-use kc_profile::{Profile, Scope, Statistics, report};
+use kc_profile::{Profile, Scope, Source, Statistics, put_sources, report};
 use std::alloc::Global;
 
 /// What is known of the sources of an image: the entries of its line map, its instructions by their lines, and its modules at their

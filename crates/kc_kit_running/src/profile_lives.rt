@@ -6,7 +6,7 @@ ghost use Rattle.kc_profile.specs.Spots.{spots_for};
 ghost use Rattle.kc_cycles.specs.Lives.{is_reset};
 ghost use Rattle.kc_cycles.specs.Making.{deadline_of};
 ghost use Rattle.kc_kit_words.specs.Values.{max_states, max_lives};
-ghost use Rattle.kc_cover.specs.Cover.{cover_text};
+ghost use Rattle.kc_profile.specs.Cover.{cover_text};
 ghost use Rattle.kc_profile.specs.declared.statistics_text.Scope.TheVariants as scopes;
 ghost use Rattle.kc_profile.specs.Statistics.{AreAllFew};
 ghost use Rattle.kc_profile.specs.Tally.{total};

@@ -3,7 +3,7 @@ ghost use Rattle.std.specs.Prelude.{◌≡◌, ◌≤◌, false, None, IfOk, IfE
 ghost use Rattle.kc_base.specs.Fresh.{IsFresh};
 ghost use Rattle.kc_trace.specs.Trace.{out_of};
 ghost use Rattle.kc_profile.specs.declared.statistics_text.Scope.TheVariants as scopes;
-ghost use Rattle.kc_cover.specs.Cover.{cover_text};
+ghost use Rattle.kc_profile.specs.Cover.{cover_text};
 ghost use Rattle.kc_kit_files.specs.Ended.{Ends};
 ghost use Rattle.kc_kit_files.specs.Outside.{kept};
 ghost use Rattle.kc_kit_words.specs.Asked.{behind_in, IsBounded};

@@ -7,3 +7,4 @@ pub mod Spreads
 pub mod Waits
 pub mod Statistics
 pub mod StatisticsText
+pub mod Cover

@@ -1,7 +1,7 @@
 use Rattle.std.proofs.Common.{◌≡◌, ◌≤◌, List, Some, Ok, length, sym, subst, ◌∙◌, arith}
 use Rattle.kc_source_laws.proofs.Counts.{lines_numbered, stmt_count}
 use Rattle.kc_lex.specs.declared.token.Line.{Line}
-use Rattle.kc_macro_depth.specs.Depths.{depths_of}
+use Rattle.kc_asm_list.specs.Depths.{depths_of}
 use Rattle.kc_asm_list.specs.Spots.{spots_of}
 use Rattle.kc_asm_list.proofs.Refused.{by_macros, by_depths, by_statements}
 use Rattle.kc_asm_list.proofs.listed.read_statements.Goals as goal

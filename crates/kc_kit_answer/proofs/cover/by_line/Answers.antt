@@ -1,6 +1,6 @@
 use Rattle.std.proofs.Common.{rules}
 use Rattle.std.proofs.lemmas.List.Sorted.{IsNonDecreasingBy-from_sort_by_key, answers_always}
-use Rattle.kc_cover.specs.declared.source.Instruction.{Instruction}
+use Rattle.kc_profile.specs.declared.source.Instruction.{Instruction}
 use Rattle.kc_kit_answer.proofs.CoverLemmas.{same}
 use Rattle.kc_kit_answer.proofs.cover.by_line.Goals as goal
 

@@ -1,5 +1,0 @@
-use Rattle.kc_link_unlinked_laws.proofs.Row.{worked_unlinked}
-use Rattle.kc_link_unlinked_laws.proofs.worked_unlinked.Goals as goal
-
-pub returns : goal.returns
-returns c = worked_unlinked

@@ -1,4 +1,0 @@
-pub mod Course
-pub mod Grown
-pub mod Agreement
-pub mod Plain

@@ -1,5 +1,0 @@
-use Rattle.kc_macro_depth.proofs.Plain.{plain_lines_stand_at_none}
-use Rattle.kc_macro_depth.proofs.laws.plain_lines_stand_at_none.Goals as goal
-
-pub returns : goal.returns
-returns c = plain_lines_stand_at_none
