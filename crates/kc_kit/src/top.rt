@@ -15,13 +15,14 @@ ghost use Rattle.kc_kit_words.specs.Usage.{usage_diagnostic};
 ghost use Rattle.kc_kit_words.specs.Words.{command_of};
 ghost use Rattle.kc_kit_words.specs.Asked.{asked, IsWithin};
 ghost use Rattle.kc_kit_words.specs.Commands.{names_read, names_written};
-ghost use Rattle.kc_kit_answer.specs.Answer.{MayAnswerBy, IsAccepted, EndsAccepted, StaysBut};
+ghost use Rattle.kc_kit_answer.specs.Answer.{MayAnswerBy, IsAccepted, IsUsage, EndsAccepted, StaysBut};
 ghost use Rattle.kc_kit_answer.specs.Jobs.{IsDoable, IsOf, IsReady};
 ghost use Rattle.kc_kit_answer.specs.Lines.{usage_line};
 
 use kc_base::{Files, Sink};
 use kc_kit_answer::{
-    Job, VERSION, explain_code, perform, prepare_assemble, prepare_check, prepare_debug,
+    Job, VERSION, explain_code, perform, prepare_assemble, prepare_bound, prepare_check,
+    prepare_debug,
     prepare_dump, prepare_generate, prepare_hex, prepare_link, prepare_list, prepare_pack,
     prepare_profile, prepare_profile_hex, prepare_run, report_help, report_help_on,
 };
@@ -58,7 +59,8 @@ pub fn kit<F: Streams, S: Sink, N: Sink>(
         → ¬ Rose (F.read_faults files.old) (F.read_faults files.new) → ¬ Rose (S.faults out.old.sink) (S.faults out.new.sink) → ¬ Rose (F.write_faults files.old) (F.write_faults files.new)
         → EndsAccepted (command_of (map string_bytes words.now)) result) }
 
-    ensures usage { result ≡ Status.Usage → command_of (map string_bytes words.now) ≡ None }
+    // So are the words answered that are no command, and those that ask for a bound from or to what is no address of the ROM.
+    ensures usage { result ≡ Status.Usage → IsUsage (command_of (map string_bytes words.now)) (F.held files.old) }
     ensures no_command { command_of (map string_bytes words.now) ≡ None → (result ≡ Status.Usage) ⊎ (result ≡ Status.WriteFault) }
     ensures read_fault { result ≡ Status.ReadFault → Rose (F.read_faults files.old) (F.read_faults files.new) }
     ensures write_fault { result ≡ Status.WriteFault → Rose (S.faults out.old.sink) (S.faults out.new.sink)
@@ -181,6 +183,10 @@ fn done<'a, F: Streams, S: Sink>(
         }
         Command::Check(check) => {
             let prepared = prepare_check(alloc, check, files);
+            finish(alloc, prepared, files, out)
+        }
+        Command::Bound(bound) => {
+            let prepared = prepare_bound(alloc, bound, files);
             finish(alloc, prepared, files, out)
         }
         Command::Explain(explain) => explain_code(alloc, explain.code, out),
