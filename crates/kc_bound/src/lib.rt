@@ -1,5 +1,5 @@
 //! The most states of a routine, for every input: what notes say of loops, computed jumps and block moves, the ways on from each
-//! instruction of an image, what a pass through a routine is, what a certificate has to keep to, the check of one, and a finder. The law that each
+//! instruction of an image, what a pass through a routine is, what a certificate has to keep to, and the check of one. The law that each
 //! pass keeps to the bound that a certificate shows stands here too.
 //! It stands on the machine (`kc_machine_spec`), on decoding (`kc_code`) and on the plans of instructions (`kc_exec`).
 //! `ways` of `JE 210AH` at 2103H gives 4 states on to 2105H and 8 on to 210AH; `checked` of a certificate whose potential at 2100H
@@ -8,23 +8,16 @@
 
 mod certificate;
 mod checking;
-mod components;
-mod finding;
-mod graph;
 mod instruction_ways;
 mod laws;
 mod looking;
-mod loops;
 mod notes;
-mod reach;
-mod routines;
 mod way;
 
 pub use certificate::{Bound, Certificate, Standing};
 pub use checking::checked;
-pub use finding::{Found, find};
 pub use instruction_ways::ways;
 pub use laws::{certified_is_bounded, found_is_decoded, states_are_most, turn_is_paid};
+pub use looking::{found_at, is_end};
 pub use notes::{Goes, Loop, Moved, Notes};
-pub use reach::{Refusal, Why};
 pub use way::Way;
