@@ -10,6 +10,8 @@ mod beacon;
 #[cfg(test)]
 mod blocks;
 #[cfg(test)]
+mod bounds;
+#[cfg(test)]
 mod bus;
 #[cfg(test)]
 mod convert;
