@@ -2,6 +2,7 @@
 use Rattle.std.specs.Prelude.{◌≡◌, ℕ, ◌-◌, ◌<◌, ◌≤◌, ◌^◌, nat_lt, nat_le, Bool, true, ◌&&◌, Option, Some, None, Result, Ok, Err, List, [], ◌∷◌, length, find, slice_get, ◌==◌, if◌then◌else◌, All}
 use Rattle.std.specs.List.{list_any}
 use Rattle.std.specs.Char.{is_ascii_lowercase}
+use Rattle.std.specs.Option.{option_map}
 use Rattle.kc_base.specs.Fields.{first_of, second_of, third_of, word_of}
 use Rattle.kc_base.specs.Limits.{image_start}
 use Rattle.kc_base.specs.TextLines.{text_lines}
@@ -9,7 +10,7 @@ use Rattle.kc_obj_module.specs.Names.{is_name}
 use Rattle.kc_debug_script.specs.declared.line_map.MapEntry.{MapEntry}
 use Rattle.kc_debug_script.specs.declared.fault.DebugFault.{DebugFault}
 use Rattle.kc_debug_script.specs.declared.fault.DebugFault.TheVariants as faults
-use Rattle.kc_debug_script.specs.Fields.{if_is, number_of}
+use Rattle.kc_debug_script.specs.Fields.{if_is, number_of, is_named}
 use Rattle.kc_debug_script.specs.Reading.{said}
 
 -- ---- a line: an address, the name of a module, and a line of its source, with single spaces between them
@@ -66,6 +67,10 @@ Rises (e ∷ f ∷ es) = (e.addr < f.addr) × Rises (f ∷ es)
 pub record IsOrdered (entries : List MapEntry) : Type 0 where
   pub high : All (λ e. image_start ≤ e.addr) entries
   pub rises : Rises entries
+
+-- the first address of a line of a module, whose name is in letters of either case
+abbrev pub address_of : List MapEntry → List ℕ → ℕ → Option ℕ
+address_of entries name line = option_map (λ e. e.addr) (find (λ e. (e.line == line) && is_named e.name name) entries)
 
 -- the entry of an address
 abbrev pub entry_at : List MapEntry → ℕ → Option MapEntry
