@@ -8,7 +8,7 @@ use Rattle.kc_addresses.specs.Names.{names_of}
 use Rattle.kc_debug_script.specs.declared.line_map.MapEntry.{MapEntry}
 use Rattle.kc_debug_script.specs.LineMap as maps
 use Rattle.kc_hex.specs.Records.{image_of}
-use Rattle.kc_bound.specs.Reading.{NotesSaid, none_said, notes_of}
+use Rattle.kc_bound.specs.Reading.{NotesRead, no_notes, notes_of, address_of}
 use Rattle.kc_kit_files.specs.declared.status.Status.{Status}
 use Rattle.kc_kit_files.specs.declared.status.Status.TheVariants as status
 use Rattle.kc_kit_files.specs.Response.{Response, reports, Then}
@@ -46,18 +46,18 @@ of-line-map : (file : Option (List ℕ × List ℕ)) (e : Response) → lines_of
 of-line-map None e h = let none : List MapEntry = [] in ok-err (IsInput e) none e h
 of-line-map (Some file) e h = of-lines (codes "BADMAP") file.0 file.1 (maps.map_of file.1) e h
 
-of-notes-text : (name text : List ℕ) (x : Result NotesSaid ℕ) (e : Response) → by_notes name text x ≡ Err e → IsInput e
+of-notes-text : (name text : List ℕ) (x : Result NotesRead ℕ) (e : Response) → by_notes name text x ≡ Err e → IsInput e
 of-notes-text name text (Ok said) e h = ok-err (IsInput e) said e h
 of-notes-text name text (Err line) e h = of-line name text line (codes "BADNOTE") e (let k : line_response name text line (codes "BADNOTE") ≡ e = cc in k)
 
 of-notes : (names : List Name) (lines : List MapEntry) (file : Option (List ℕ × List ℕ)) (e : Response) → notes_in names lines file ≡ Err e → IsInput e
-of-notes names lines None e h = ok-err (IsInput e) none_said e h
-of-notes names lines (Some file) e h = of-notes-text file.0 file.1 (notes_of names lines file.1) e h
+of-notes names lines None e h = ok-err (IsInput e) no_notes e h
+of-notes names lines (Some file) e h = of-notes-text file.0 file.1 (notes_of (address_of names lines) file.1) e h
 
 of-annotations : (files : AnnotationFiles) (e : Response) → annotations_of files ≡ Err e → IsInput e
 of-annotations files e h = by-names (names_in files.map) refl h
   where
-    by-notes : (names : List Name) (lines : List MapEntry) (x : Result NotesSaid Response) → notes_in names lines files.notes ≡ x → with_notes names lines x ≡ Err e → IsInput e
+    by-notes : (names : List Name) (lines : List MapEntry) (x : Result NotesRead Response) → notes_in names lines files.notes ≡ x → with_notes names lines x ≡ Err e → IsInput e
     by-notes names lines (Ok said) f k = absurd (cc)
     by-notes names lines (Err r) f k = of-notes names lines files.notes e (f ∙ (let l : Err r ≡ Err e = cc in l))
 
@@ -81,7 +81,7 @@ PassesEnd unknown r = (r.writes ≡ []) × (((r.status ≡ status.Usage) × unkn
 of-unknown : (unknown : Type 0) (word : List ℕ) (r : Response) → unknown → r ≡ reports status.Usage usage_line (unknown_diagnostic word) → PassesEnd unknown r
 of-unknown unknown word r u h = (ap (λ (k : Response). k.writes) h, inl (ap (λ (k : Response). k.status) h, u))
 
-of-report : (unknown : Type 0) (image : List ℕ) (said : NotesSaid) (first : ℕ) (r : Response) → IsReported image said first r → PassesEnd unknown r
+of-report : (unknown : Type 0) (image : List ℕ) (said : NotesRead) (first : ℕ) (r : Response) → IsReported image said first r → PassesEnd unknown r
 of-report unknown image said first r h = (ap (λ (k : Response). k.writes) h.response, inr (by h.is_bound (ap (λ (k : Response). k.status) h.response)))
   where
     by : (b : Bool) → r.status ≡ report_status b → IsFound r.status

@@ -5,7 +5,7 @@ use Rattle.std.specs.Option.{option_map_or, option_to_list}
 use Rattle.std.specs.Result.{IsOk}
 use Rattle.kc_hex.specs.Records.{image_of}
 use Rattle.kc_bound.specs.declared.notes.Notes.{Notes}
-use Rattle.kc_bound.specs.Reading.{NotesSaid, content}
+use Rattle.kc_bound.specs.Reading.{NotesRead, notes_read}
 use Rattle.kc_kit_files.specs.declared.status.Status.{Status}
 use Rattle.kc_kit_files.specs.declared.status.Status.TheVariants as status
 use Rattle.kc_kit_files.specs.Response.{Response, says, reports, Then}
@@ -47,13 +47,13 @@ report_status true = status.Done
 report_status false = status.Broken
 
 -- notes with one end more, where there is one
-abbrev pub with_end : Option ℕ → NotesSaid → NotesSaid
-with_end last said = record { loops = said.loops; goes = said.goes; words = said.words; ends = said.ends ++ option_to_list last }
+abbrev pub with_end : Option ℕ → NotesRead → NotesRead
+with_end last said = record said { ends = said.ends ++ option_to_list last }
 
 -- what may be reported of the passes from an address through an image, by notes with these contents
-pub record IsReported (image : List ℕ) (said : NotesSaid) (from : ℕ) (response : Response) : Type 0 where
+pub record IsReported (image : List ℕ) (said : NotesRead) (from : ℕ) (response : Response) : Type 0 where
   pub notes : Notes
-  pub contents : content notes ≡ said
+  pub contents : notes_read notes ≡ said
   pub is_bound : Bool
   pub text : List ℕ
   pub report : IsReport image notes from is_bound text

@@ -2,7 +2,7 @@
 ghost use Rattle.std.specs.Prelude.{◌≡◌, ◌≤◌, Ok, Err, IfOk, IfErr, length, map};
 ghost use Rattle.std.specs.Option.{option_map};
 ghost use Rattle.kc_base.specs.Limits.{file_limit};
-ghost use Rattle.kc_bound.specs.Reading.{content};
+ghost use Rattle.kc_bound.specs.Reading.{notes_read};
 ghost use Rattle.kc_kit_files.specs.Reads.{AllShort};
 ghost use Rattle.kc_kit_files.specs.declared.status.Status.TheVariants as status;
 ghost use Rattle.kc_kit_files.specs.Response.{says, reports, IsRefused};
@@ -116,7 +116,7 @@ fn end_of(
 
 // Notes with one end more, where there is one.
 fn with_end(mut notes: Notes, end: Option<u16>) -> Result<Notes, NoMemory>
-    ensures { IfOk result (λ notes. content notes ≡ end_added end (content notes.entry)) }
+    ensures { IfOk result (λ notes. notes_read notes ≡ end_added end (notes_read notes.entry)) }
 {
     if let Some(at) = end {
         notes.ends.push(at)?;
@@ -155,7 +155,7 @@ fn report_job<'a>(
     notes: &Notes,
     from: u16,
 ) -> Result<Job<'a>, Refusal>
-    ensures { IsPrepared (IsReported image.now (content notes.now) from) result }
+    ensures { IsPrepared (IsReported image.now (notes_read notes.now) from) result }
 {
     match report_bound(alloc, image, notes, from) {
         Ok(report) => Ok(printed(alloc, report)),

@@ -1,11 +1,13 @@
 -- What a linker's map, a line map and notes say of an image (this kit's own). Notes name addresses by the maps.
-use Rattle.std.specs.Prelude.{ℕ, ◌≤◌, nat_lt, nat_le, ◌&&◌, if◌then◌else◌, List, [], codes, length, Option, Some, None, option_and_then, Result, Ok, Err, IfSome}
+use Rattle.std.specs.Prelude.{ℕ, ◌≤◌, List, [], codes, length, Option, Some, None, Result, Ok, Err, IfSome}
 use Rattle.std.specs.Option.{option_map}
-use Rattle.kc_base.specs.Limits.{file_limit, image_start, rom_end}
+use Rattle.kc_base.specs.Limits.{file_limit}
 use Rattle.kc_addresses.specs.declared.names.Name.{Name}
 use Rattle.kc_addresses.specs.Names.{names_of}
+use Rattle.kc_addresses.specs.Numbers.{hex_value_of}
+use Rattle.kc_debug_script.specs.Fields.{if_is}
 use Rattle.kc_debug_script.specs.declared.line_map.MapEntry.{MapEntry}
-use Rattle.kc_bound.specs.Reading.{NotesSaid, content, none_said, notes_of, address_of}
+use Rattle.kc_bound.specs.Reading.{NotesRead, notes_read, no_notes, notes_of, address_of, is_in_rom}
 use Rattle.kc_kit_files.specs.Response.{Response}
 use Rattle.kc_kit_words.specs.declared.inputs.Role.{Role}
 use Rattle.kc_kit_words.specs.declared.inputs.Role.TheVariants as role
@@ -33,24 +35,24 @@ annotation_files inputs texts = record {
 pub record Annotations : Type 0 where
   pub names : List Name
   pub lines : List MapEntry
-  pub notes : NotesSaid
+  pub notes : NotesRead
 
 -- the public names of a map, or the response to its first line that is none of one; no names without a map
 abbrev pub names_in : Option (List ℕ × List ℕ) → Result (List Name) Response
 names_in (Some file) = by_lines (codes "BADNAMES") file.0 file.1 (names_of file.1)
 names_in None = Ok []
 
-abbrev pub by_notes : List ℕ → List ℕ → Result NotesSaid ℕ → Result NotesSaid Response
+abbrev pub by_notes : List ℕ → List ℕ → Result NotesRead ℕ → Result NotesRead Response
 by_notes name text (Ok said) = Ok said
 by_notes name text (Err line) = Err (line_response name text line (codes "BADNOTE"))
 
 -- notes, by the names and the lines that they may use, or the response to their first line that is none; none without such a file
-abbrev pub notes_in : List Name → List MapEntry → Option (List ℕ × List ℕ) → Result NotesSaid Response
-notes_in names lines (Some file) = by_notes file.0 file.1 (notes_of names lines file.1)
-notes_in names lines None = Ok none_said
+abbrev pub notes_in : List Name → List MapEntry → Option (List ℕ × List ℕ) → Result NotesRead Response
+notes_in names lines (Some file) = by_notes file.0 file.1 (notes_of (address_of names lines) file.1)
+notes_in names lines None = Ok no_notes
 
 -- the map is checked first, then the line map, and the notes last
-abbrev pub with_notes : List Name → List MapEntry → Result NotesSaid Response → Result Annotations Response
+abbrev pub with_notes : List Name → List MapEntry → Result NotesRead Response → Result Annotations Response
 with_notes names lines (Ok notes) = Ok (record { names = names; lines = lines; notes = notes })
 with_notes names lines (Err response) = Err response
 
@@ -66,9 +68,13 @@ with_names files (Err response) = Err response
 abbrev pub annotations_of : AnnotationFiles → Result Annotations Response
 annotations_of files = with_names files (names_in files.map)
 
--- the address of the ROM that a word stands for, if it is one
+-- the address of the ROM that a word stands for, if it is one: a hexadecimal number of the assembler, or as notes have it
+abbrev pub by_number : Annotations → List ℕ → Option ℕ → Option ℕ
+by_number a word (Some n) = if_is is_in_rom (Some n)
+by_number a word None = address_of a.names a.lines word
+
 abbrev pub address_in : Annotations → List ℕ → Option ℕ
-address_in a word = address_of a.names a.lines word
+address_in a word = by_number a word (hex_value_of 0xFFFF word)
 
 -- what read files and what read annotations show
 abbrev pub files_in : ReadFiles → AnnotationFiles
@@ -79,7 +85,7 @@ files_in files = record {
 }
 
 abbrev pub said_in : ReadAnnotations → Annotations
-said_in a = record { names = a.names; lines = a.lines; notes = content a.notes }
+said_in a = record { names = a.names; lines = a.lines; notes = notes_read a.notes }
 
 -- each of the files is within the limit of a file
 pub record AreWithin (files : ReadFiles) : Type 0 where

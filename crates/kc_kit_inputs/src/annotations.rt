@@ -2,7 +2,8 @@
 ghost use Rattle.std.specs.Prelude.{◌≡◌, ◌≤◌, Ok, Err, IfOk, IfErr, IfSome, length, map};
 ghost use Rattle.std.specs.Option.{option_map};
 ghost use Rattle.kc_base.specs.Limits.{file_limit};
-ghost use Rattle.kc_bound.specs.Reading.{content};
+ghost use Rattle.kc_bound.specs.Reading.{is_in_rom as is_rom, no_notes as spec_no_notes, notes_read};
+ghost use Rattle.kc_debug_script.specs.Fields.{if_is};
 ghost use Rattle.kc_kit_files.specs.Reads.{AllShort};
 ghost use Rattle.kc_kit_files.specs.Response.{IsRefused};
 ghost use Rattle.kc_kit_words.specs.Inputs.{inputs_in};
@@ -11,8 +12,9 @@ ghost use Rattle.kc_kit_inputs.specs.Annotations.{address_in, annotation_files a
 use crate::input_lines::line_refusal;
 use crate::reading::input_for;
 use crate::scripts::lines_in;
-use kc_addresses::{LineMap, MapFault, Names};
-use kc_bound::{Notes, NotesFault, rom_address};
+use kc_addresses::{LineMap, MapFault, Names, hex_value};
+use kc_base::{IMAGE_START, ROM_END};
+use kc_bound::{Notes, NotesFault, address as noted_address};
 use kc_kit_files::Refusal;
 use kc_kit_words::{Inputs, Role};
 use std::alloc::Global;
@@ -80,13 +82,24 @@ fn read_notes(
     text: &[u8],
 ) -> Result<Notes, Refusal>
     requires { length text.now ≤ file_limit }
-    ensures notes { IfOk result (λ notes. notes_said names.now lines.now (Some (name.now, text.now)) ≡ Ok (content notes)) }
+    ensures notes { IfOk result (λ notes. notes_said names.now lines.now (Some (name.now, text.now)) ≡ Ok (notes_read notes)) }
     ensures refusal { IfErr result (IsRefused (λ response. notes_said names.now lines.now (Some (name.now, text.now)) ≡ Err response)) }
 {
     match Notes::read(alloc, text, names, lines) {
         Ok(notes) => Ok(notes),
         Err(NotesFault::BadNote(line)) => Err(line_refusal(alloc, name, text, line, b"BADNOTE")),
         Err(NotesFault::NoMemory) => Err(Refusal::NoMemory),
+    }
+}
+
+fn no_notes(alloc: Global) -> Notes
+    ensures { notes_read result ≡ spec_no_notes }
+{
+    Notes {
+        loops: Vec::new(alloc),
+        goes: Vec::new(alloc),
+        words: Vec::new(alloc),
+        ends: Vec::new(alloc),
     }
 }
 
@@ -98,12 +111,12 @@ fn notes_in(
     file: Option<(&str, &[u8])>,
 ) -> Result<Notes, Refusal>
     requires { IfSome file (λ f. length f.1.now ≤ file_limit) }
-    ensures notes { IfOk result (λ notes. notes_said names.now lines.now (option_map (λ f. (f.0.now, f.1.now)) file.entry) ≡ Ok (content notes)) }
+    ensures notes { IfOk result (λ notes. notes_said names.now lines.now (option_map (λ f. (f.0.now, f.1.now)) file.entry) ≡ Ok (notes_read notes)) }
     ensures refusal { IfErr result (IsRefused (λ response. notes_said names.now lines.now (option_map (λ f. (f.0.now, f.1.now)) file.entry) ≡ Err response)) }
 {
     match file {
         Some((name, text)) => read_notes(alloc, names, lines, name, text),
-        None => Ok(Notes::none(alloc)),
+        None => Ok(no_notes(alloc)),
     }
 }
 
@@ -131,9 +144,25 @@ pub fn annotations_in(alloc: Global, files: AnnotationFiles<'_>) -> Result<Annot
     }
 }
 
-/// The address of the ROM that a word stands for: a number, a public name, or a line of a module. `None` where it is none.
+// A number, where it is an address of the ROM.
+fn in_rom(number: u64) -> Option<u16>
+    ensures { result ≡ if_is is_rom (Some number) }
+{
+    if u64::from(IMAGE_START) <= number && number < u64::from(ROM_END) {
+        Some(number as u16)
+    } else {
+        None
+    }
+}
+
+/// The address of the ROM that a word stands for: four hex digits or a hexadecimal number of the assembler, a public name, or a line of
+/// a module. `None` where it stands for none.
 pub fn address(annotations: &Annotations, word: &str) -> Option<u16>
     ensures { result ≡ address_in (said_in annotations.now) word.now }
 {
-    rom_address(&annotations.names, &annotations.lines, word.as_bytes())
+    let word = word.as_bytes();
+    match hex_value(0xFFFF, word) {
+        Some(number) => in_rom(number),
+        None => noted_address(&annotations.names, &annotations.lines, word),
+    }
 }
