@@ -33,7 +33,7 @@ impl From<NoMemory> for NotesFault {
 }
 
 /// The most notes, and the most addresses that a note names behind its own.
-const NOTE_LIMIT: usize = 4096;
+const NOTE_LIMIT: u64 = 4096;
 
 const TARGET_LIMIT: usize = 256;
 
