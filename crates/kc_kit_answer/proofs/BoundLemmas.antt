@@ -1,7 +1,7 @@
 -- How `bound` ends, by what its files hold.
 use Rattle.std.proofs.Common.{◌≡◌, ◌⊎◌, inl, inr, ℕ, Bool, true, false, List, [], ◌∷◌, Option, Some, None, Result, Ok, Err, refl, sym, ◌∙◌, ap, subst}
 use Rattle.std.specs.Prelude.{◌&&◌, is_some, codes}
-use Rattle.std.specs.Option.{option_map_or}
+use Rattle.std.specs.Option.{option_map, option_map_or}
 use Rattle.std.specs.Result.{IsOk}
 use Rattle.kc_addresses.specs.declared.names.Name.{Name}
 use Rattle.kc_addresses.specs.Names.{names_of}
@@ -11,17 +11,27 @@ use Rattle.kc_hex.specs.Records.{image_of}
 use Rattle.kc_bound.specs.Reading.{NotesRead, no_notes, notes_of, address_of}
 use Rattle.kc_kit_files.specs.declared.status.Status.{Status}
 use Rattle.kc_kit_files.specs.declared.status.Status.TheVariants as status
-use Rattle.kc_kit_files.specs.Response.{Response, reports, Then}
+use Rattle.kc_kit_files.specs.declared.refusal.Refusal.{Refusal}
+use Rattle.kc_kit_files.specs.Response.{Response, reports, Then, IsRefused}
+use Rattle.kc_kit_files.proofs.ReadLemmas.{refused-widen}
+use Rattle.kc_kit_words.specs.declared.command.Bound.{Bound}
 use Rattle.kc_kit_words.specs.declared.inputs.Role.{Role}
 use Rattle.kc_kit_inputs.specs.Annotations.{AnnotationFiles, Annotations, names_in, by_notes, notes_in, with_notes, with_lines, with_names, annotations_of, annotation_files, address_in}
-use Rattle.kc_kit_inputs.specs.Hex.{by_image}
+use Rattle.kc_kit_inputs.specs.Hex.{by_image, hex_of}
 use Rattle.kc_kit_inputs.specs.Lines.{coded}
 use Rattle.kc_kit_inputs.specs.Responses.{line_response}
 use Rattle.kc_kit_inputs.specs.Scripts.{by_lines, lines_of}
 use Rattle.kc_kit_answer.specs.Accepting.{Accepting, IsOneText}
 use Rattle.kc_kit_answer.specs.Answer.{OneText}
 use Rattle.kc_kit_answer.specs.Bound.{unknown_diagnostic, by_address, place_of, maybe_end, end_of, report_status, with_end, IsReported, PassesAnswer, BoundAnswer, are_addresses, AreBoundable}
+use Rattle.kc_kit_answer.specs.Jobs.{IsPrepared}
 use Rattle.kc_kit_answer.specs.Lines.{usage_line}
+use Rattle.kc_kit_answer.specs.declared.job.Job.{Job}
+use Rattle.kc_kit_answer.proofs.AnswerSteps.{then-ok, then-err, prepared-widen}
+
+-- the word for an address at which a pass ends too
+abbrev pub end_word : Bound → Option (List ℕ)
+end_word bound = option_map (λ t. t.now) bound.to
 
 -- ---- inputs with a fault
 
@@ -159,3 +169,41 @@ module _ (file from : List ℕ) (to : Option (List ℕ)) (inputs : List (Role ×
   bound-done [] accepted h = absurd h
   bound-done (text ∷ []) accepted h = text-done text accepted h
   bound-done (text ∷ other ∷ texts) accepted h = absurd h
+
+-- ---- what is prepared
+
+module _ (file from : List ℕ) (to : Option (List ℕ)) (inputs : List (Role × List ℕ)) (text : List ℕ) (more : List (List ℕ)) where
+  abbrev Answers : Response → Type 0
+  Answers = BoundAnswer file from to inputs text more
+
+  pub image-refused : (refusal : Refusal) → IsRefused (λ response. hex_of file text ≡ Err response) refusal → IsRefused Answers refusal
+  image-refused refusal h =
+      refused-widen (λ response. hex_of file text ≡ Err response) Answers refusal (λ r e. then-err (hex_of file text) (λ image. Then (annotations_of (annotation_files inputs more)) (PassesAnswer from to image)) r e) h
+
+  pub annotations-refused : (image : List ℕ) (refusal : Refusal) → hex_of file text ≡ Ok image → IsRefused (λ response. annotations_of (annotation_files inputs more) ≡ Err response) refusal → IsRefused Answers refusal
+  annotations-refused image refusal e h =
+      refused-widen (λ response. annotations_of (annotation_files inputs more) ≡ Err response) Answers refusal
+      (λ r f. then-ok (hex_of file text) image (λ image. Then (annotations_of (annotation_files inputs more)) (PassesAnswer from to image)) r e (then-err (annotations_of (annotation_files inputs more)) (PassesAnswer from to image) r f)) h
+
+  pub passes-prepared : (image : List ℕ) (a : Annotations) (p : Result Job Refusal) → hex_of file text ≡ Ok image → annotations_of (annotation_files inputs more) ≡ Ok a → IsPrepared (PassesAnswer from to image a) p → IsPrepared Answers p
+  passes-prepared image a p e f h =
+      prepared-widen (PassesAnswer from to image a) Answers p
+      (λ r k. then-ok (hex_of file text) image (λ image. Then (annotations_of (annotation_files inputs more)) (PassesAnswer from to image)) r e (then-ok (annotations_of (annotation_files inputs more)) a (PassesAnswer from to image) r f k)) h
+
+module _ (from : List ℕ) (to : Option (List ℕ)) (image : List ℕ) (a : Annotations) where
+  abbrev Behind : ℕ → Response → Type 0
+  Behind first = Then (end_of a to) (λ last. IsReported image (with_end last a.notes) first)
+
+  pub from-refused : (refusal : Refusal) → IsRefused (λ response. place_of a from ≡ Err response) refusal → IsRefused (PassesAnswer from to image a) refusal
+  from-refused refusal h = refused-widen (λ response. place_of a from ≡ Err response) (PassesAnswer from to image a) refusal (λ r e. then-err (place_of a from) Behind r e) h
+
+  pub end-refused : (first : ℕ) (refusal : Refusal) → place_of a from ≡ Ok first → IsRefused (λ response. end_of a to ≡ Err response) refusal → IsRefused (PassesAnswer from to image a) refusal
+  end-refused first refusal e h =
+      refused-widen (λ response. end_of a to ≡ Err response) (PassesAnswer from to image a) refusal
+      (λ r f. then-ok (place_of a from) first Behind r e (then-err (end_of a to) (λ last. IsReported image (with_end last a.notes) first) r f)) h
+
+  pub report-prepared : (first : ℕ) (last : Option ℕ) (said : NotesRead) (p : Result Job Refusal) → place_of a from ≡ Ok first → end_of a to ≡ Ok last → said ≡ with_end last a.notes → IsPrepared (IsReported image said first) p →
+      IsPrepared (PassesAnswer from to image a) p
+  report-prepared first last said p e f same h =
+      prepared-widen (IsReported image said first) (PassesAnswer from to image a) p
+      (λ r k. then-ok (place_of a from) first Behind r e (then-ok (end_of a to) last (λ last. IsReported image (with_end last a.notes) first) r f (subst (λ s. IsReported image s first r) same k))) h
