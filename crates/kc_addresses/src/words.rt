@@ -1,5 +1,5 @@
 // The words of a line.
-ghost use Rattle.std.specs.Prelude.{◌≡◌, ◌<◌, ◌≤◌, ◌∷◌, [], length, IfSome, IsNone, IsTrue, ◌↔◌};
+ghost use Rattle.std.specs.Prelude.{◌≡◌, ◌<◌, ◌≤◌, ◌∷◌, [], not, length, IfSome, IsNone, IsTrue, ◌↔◌};
 ghost use Rattle.std.specs.List.{take_while};
 ghost use Rattle.kc_addresses.specs.Words.{is_blank as is_space_or_tab, is_over as has_no_word, before_comment as without_comment, first_word, behind_word, words_in, words_with};
 
@@ -29,7 +29,7 @@ fn blank_count(text: &[u8]) -> usize
 
 // How long the word at the beginning is.
 fn word_len(text: &[u8]) -> usize
-    ensures value { result ≡ length (first_word text.now) }
+    ensures value { result ≡ length (take_while (λ c. not (is_space_or_tab c)) text.now) }
     ensures within { result ≤ length text.now }
 {
     text.iter().take_while(|c| !is_blank(**c)).count()
@@ -65,5 +65,5 @@ pub fn is_over(text: &[u8]) -> bool
     ensures first { result ≡ has_no_word text.now }
     ensures words { IsTrue result ↔ (words_in text.now ≡ []) }
 {
-    blank_count(text) == text.len()
+    cut(text).0.is_empty()
 }

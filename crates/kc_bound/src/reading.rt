@@ -33,7 +33,7 @@ impl From<NoMemory> for NotesFault {
 }
 
 /// The most notes, and the most addresses that a note names behind its own.
-const NOTE_LIMIT: usize = 4096;
+const NOTE_LIMIT: u64 = 4096;
 
 const TARGET_LIMIT: usize = 256;
 
@@ -44,10 +44,10 @@ fn meant_by(names: &Names, lines: &LineMap, word: &[u8]) -> Option<u16>
     if begins_with_digit(word) {
         return hex_word(word);
     }
-    if word.contains(&b':') {
-        return line_place(lines, word);
+    match line_place(lines, word) {
+        Some(addr) => Some(addr),
+        None => names.value(word),
     }
-    names.value(word)
 }
 
 fn is_in_rom(addr: u16) -> bool
