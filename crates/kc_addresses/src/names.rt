@@ -149,8 +149,9 @@ impl Names {
     pub fn nearest(&self, addr: u16) -> Option<&Name>
         ensures { option_copied result ≡ nearest_below addr self.now }
     {
+        let names = self.names.as_slice();
         let mut nearest = None;
-        for name in self.names.as_slice() {
+        for name in names {
             nearest = nearer(nearest, name, addr);
         }
         nearest

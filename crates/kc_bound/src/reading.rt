@@ -33,7 +33,7 @@ impl From<NoMemory> for NotesFault {
 }
 
 /// The most notes, and the most addresses that a note names behind its own.
-const NOTE_LIMIT: u64 = 4096;
+const NOTE_LIMIT: u128 = 4096;
 
 const TARGET_LIMIT: usize = 256;
 
@@ -110,7 +110,7 @@ fn are_distinct(addresses: &[u16]) -> bool
 fn are_targets(addresses: &[u16]) -> bool
     ensures { result ≡ spec.are_targets addresses.now }
 {
-    !addresses.is_empty() && addresses.len() <= TARGET_LIMIT && are_distinct(addresses)
+    1 <= addresses.len() && addresses.len() <= TARGET_LIMIT && are_distinct(addresses)
 }
 
 // The addresses of all words of a text, 1 to 256 distinct ones.
@@ -360,11 +360,11 @@ fn add_end(ends: &mut Vec<u16>, read: Option<u16>) -> Result<bool, NoMemory>
 fn is_full(notes: &Notes) -> bool
     ensures { result ≡ nat_le 4096 (spec.count_of_notes (notes_read notes.now)) }
 {
-    let loops = notes.loops.len() as u64;
-    let goes = notes.goes.len() as u64;
-    let words = notes.words.len() as u64;
-    let ends = notes.ends.len() as u64;
-    loops + goes + words + ends >= NOTE_LIMIT
+    let loops = notes.loops.len() as u128;
+    let goes = notes.goes.len() as u128;
+    let words = notes.words.len() as u128;
+    let ends = notes.ends.len() as u128;
+    NOTE_LIMIT <= loops + goes + words + ends
 }
 
 // Adds what stands behind the word of a note; `false` where it is none.
@@ -378,19 +378,21 @@ fn add_fields(
 ) -> Result<bool, NoMemory>
     ensures { IfOk result (λ is_note. IsAdded is_note (spec.with_fields (spec.address_of names.now lines.now) (notes_read notes.old) word.now (words_in text.now)) (notes_read notes.new)) }
 {
-    match word {
-        b"loop" => {
-            let read = read_loop(alloc, names, lines, text)?;
-            add_loop(&mut notes.loops, read)
-        }
-        b"goes" => {
-            let read = read_goes(alloc, names, lines, text)?;
-            add_goes(&mut notes.goes, read)
-        }
-        b"words" => add_moved(&mut notes.words, read_moved(names, lines, text)),
-        b"ends" => add_end(&mut notes.ends, read_end(names, lines, text)),
-        _ => Ok(false),
+    if word == b"loop".as_slice() {
+        let read = read_loop(alloc, names, lines, text)?;
+        return add_loop(&mut notes.loops, read);
     }
+    if word == b"goes".as_slice() {
+        let read = read_goes(alloc, names, lines, text)?;
+        return add_goes(&mut notes.goes, read);
+    }
+    if word == b"words".as_slice() {
+        return add_moved(&mut notes.words, read_moved(names, lines, text));
+    }
+    if word == b"ends".as_slice() {
+        return add_end(&mut notes.ends, read_end(names, lines, text));
+    }
+    Ok(false)
 }
 
 // Adds the note of a line, if it has words; `false` where they are none.

@@ -116,25 +116,36 @@ fn words_of_an_address_stand_once(rt: HostRuntime) -> Result<(), Fail> {
 }
 
 #[test]
-fn limits(rt: HostRuntime) -> Result<(), Fail> {
-    let mut ends: Vec<u8> = Vec::new(rt.alloc());
-    let mut goes: Vec<u8> = Vec::new(rt.alloc());
-    goes.extend_from_slice(b"goes 2000")?;
-    for count in 0..4096u16 {
-        let word = address_text(0x2000 + count);
-        ends.extend_from_slice(b"ends ")?;
-        ends.extend_from_slice(word.as_slice())?;
-        ends.push(b'\n')?;
-        if count < 256 {
-            goes.push(b' ')?;
-            goes.extend_from_slice(word.as_slice())?;
+fn targets_256(rt: HostRuntime) -> Result<(), Fail> {
+    let mut text: Vec<u8> = Vec::new(rt.alloc());
+    text.extend_from_slice(b"goes 2000")?;
+    for count in 0..256u16 {
+        text.push(b' ')?;
+        text.extend_from_slice(address_text(0x2000 + count).as_slice())?;
+    }
+    assert!(rt; bad_line(rt.alloc(), text.as_slice())? == None);
+    text.extend_from_slice(b" 3000")?;
+    assert!(rt; bad_line(rt.alloc(), text.as_slice())? == Some(1));
+    Ok(())
+}
+
+#[test]
+fn notes_4096(rt: HostRuntime) -> Result<(), Fail> {
+    let mut text: Vec<u8> = Vec::new(rt.alloc());
+    for count in 0..1024u16 {
+        let word = address_text(0x5FFF - count);
+        for (before, behind) in [
+            ("loop ", " 1\n"),
+            ("goes ", " 2000\n"),
+            ("words ", " 1\n"),
+            ("ends ", "\n"),
+        ] {
+            text.extend_from_slice(before.as_bytes())?;
+            text.extend_from_slice(word.as_slice())?;
+            text.extend_from_slice(behind.as_bytes())?;
         }
     }
-    assert!(rt; bad_line(rt.alloc(), goes.as_slice())? == None);
-    goes.extend_from_slice(b" 3000")?;
-    assert!(rt; bad_line(rt.alloc(), goes.as_slice())? == Some(1));
-    assert!(rt; bad_line(rt.alloc(), ends.as_slice())? == None);
-    ends.extend_from_slice(b"\n; no note\nwords 2000 1\n")?;
-    assert!(rt; bad_line(rt.alloc(), ends.as_slice())? == Some(4099));
+    text.extend_from_slice(b"\n; no note\nwords 2000 1\n")?;
+    assert!(rt; bad_line(rt.alloc(), text.as_slice())? == Some(4099));
     Ok(())
 }
