@@ -20,5 +20,5 @@ pub use checking::checked;
 pub use instruction_ways::ways;
 pub use laws::{certified_is_bounded, found_is_decoded, states_are_most, turn_is_paid};
 pub use notes::{Goes, Loop, Moved, Notes};
-pub use reading::NotesFault;
+pub use reading::{NotesFault, address};
 pub use way::Way;

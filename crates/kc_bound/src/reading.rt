@@ -56,8 +56,8 @@ fn is_in_rom(addr: u16) -> bool
     IMAGE_START <= addr && addr < ROM_END
 }
 
-// The address in the ROM that a word means.
-fn address(names: &Names, lines: &LineMap, word: &[u8]) -> Option<u16>
+/// The address in the ROM that a word means: four hex digits where it begins with a digit, else `MODULE:LINE`, or a public name.
+pub fn address(names: &Names, lines: &LineMap, word: &[u8]) -> Option<u16>
     ensures { result ≡ spec.address_of names.now lines.now word.now }
 {
     match meant_by(names, lines, word) {
