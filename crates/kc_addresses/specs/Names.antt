@@ -1,12 +1,11 @@
 -- The public names of a linker's map (this kit's own; kc_link's Map says how its lines are written).
-use Rattle.std.specs.Prelude.{◌≡◌, ℕ, Bool, ◌&&◌, ◌||◌, nat_le, if◌then◌else◌, Option, Some, None, Result, Ok, Err, List, [], ◌∷◌, ◌++◌, codes, find}
+use Rattle.std.specs.Prelude.{◌≡◌, ℕ, Bool, ◌&&◌, ◌||◌, nat_lt, nat_le, if◌then◌else◌, Option, Some, None, Result, Ok, Err, List, [], ◌∷◌, ◌++◌, codes, find, fold}
 use Rattle.std.specs.Option.{option_map}
-use Rattle.std.specs.Str.{bytes_eq}
+use Rattle.std.specs.Str.{bytes_eq, str_eq_ignore_ascii_case}
 use Rattle.kc_base.specs.Fields.{first_of, rest_of, second_of, third_of, word_of}
 use Rattle.kc_base.specs.Limits.{image_start}
 use Rattle.kc_base.specs.TextLines.{text_lines}
 use Rattle.kc_obj_module.specs.Names.{is_name}
-use Rattle.kc_debug_script.specs.Fields.{is_named}
 use Rattle.kc_addresses.specs.declared.fault.MapFault.{MapFault}
 use Rattle.kc_addresses.specs.declared.fault.MapFault.TheVariants as faults
 use Rattle.kc_addresses.specs.declared.names.Name.{Name}
@@ -50,18 +49,17 @@ IsNamesRead (Err faults.NoMemory) read = Unit {0}
 
 -- the value of the name that a word is, whose letters are in either case
 abbrev pub value_of_name : List Name → List ℕ → Option ℕ
-value_of_name names word = option_map (λ n. n.value) (find (λ n. is_named n.name word) names)
+value_of_name names word = option_map (λ n. n.value) (find (λ n. str_eq_ignore_ascii_case n.name word) names)
 
 -- in the image, and at an address or below it
 abbrev pub is_at_or_below : ℕ → Name → Bool
 is_at_or_below addr n = nat_le image_start n.value && nat_le n.value addr
 
--- of two names the nearer
-abbrev pub nearer : ℕ → Name → Option Name → Option Name
-nearer addr n None = if is_at_or_below addr n then Some n else None
-nearer addr n (Some other) = if is_at_or_below addr n && nat_le other.value n.value then Some n else Some other
+-- the nearest so far, or one more name where that is nearer
+abbrev pub nearer : ℕ → Option Name → Name → Option Name
+nearer addr None n = if is_at_or_below addr n then Some n else None
+nearer addr (Some best) n = if is_at_or_below addr n && nat_lt best.value n.value then Some n else Some best
 
 -- the name in the image that stands nearest at or below an address, the first of several
-unfoldable pub nearest_below : ℕ → List Name → Option Name
-nearest_below addr [] = None
-nearest_below addr (n ∷ ns) = nearer addr n (nearest_below addr ns)
+abbrev pub nearest_below : ℕ → List Name → Option Name
+nearest_below addr names = fold (nearer addr) None names

@@ -5,6 +5,7 @@ use Rattle.std.specs.Option.{option_or}
 use Rattle.kc_base.specs.Digits.{digits_from, up_to}
 use Rattle.kc_base.specs.Fields.{decimal_of}
 use Rattle.kc_base.specs.TextLines.{begins_with}
+use Rattle.kc_debug_script.specs.Fields.{number_of}
 use Rattle.kc_obj_module.specs.Names.{is_digit}
 
 abbrev pub begins_with_digit : List ℕ → Bool
@@ -26,4 +27,4 @@ value_of most text = option_or (decimal_of most text) (hex_value_of most text)
 
 -- a number from 1 to a limit, in decimal digits without a 0 (48) in front
 abbrev pub count_of : ℕ → List ℕ → Option ℕ
-count_of most text = if begins_with 48 text then None else decimal_of most text
+count_of most text = if begins_with 48 text then None else number_of most text

@@ -1,6 +1,6 @@
 -- Addresses as authors write them (this kit's own).
 use Rattle.std.specs.Prelude.{ℕ, ◌+◌, ◌-◌, ◌^◌, ◌==◌, Bool, nat_lt, if◌then◌else◌, Option, Some, None, List, [], ◌∷◌}
-use Rattle.std.specs.List.{list_any, before_first, after_first}
+use Rattle.std.specs.List.{before_first, after_first}
 use Rattle.std.specs.Option.{option_and_then, option_or}
 use Rattle.std.specs.Str.{bytes_eq}
 use Rattle.kc_base.specs.Fields.{decimal_of, word_of}
@@ -40,9 +40,9 @@ base_of k text =
 abbrev pub sum_of : ℕ → List ℕ → Option ℕ
 sum_of addr more = option_and_then (λ n. if nat_lt (addr + n) (2 ^ 16) then Some (addr + n) else None) (decimal_of 0xFFFF more)
 
--- one of these, with or without `+N` behind it, or `MODULE:LINE`
+-- one of these with `+N` behind it
+abbrev pub raised_of : Meaning → List ℕ → Option ℕ
+raised_of k text = option_and_then (λ addr. sum_of addr (after_first is_plus text)) (base_of k (before_first is_plus text))
+
 abbrev pub place_of : Meaning → List ℕ → Option ℕ
-place_of k text =
-    if list_any is_colon text then line_place_of k.lines text
-    else if list_any is_plus text then option_and_then (λ addr. sum_of addr (after_first is_plus text)) (base_of k (before_first is_plus text))
-    else base_of k text
+place_of k text = option_or (base_of k text) (option_or (raised_of k text) (line_place_of k.lines text))

@@ -2,13 +2,12 @@
 ghost use Rattle.std.specs.Prelude.{◌≡◌, ◌≤◌, ◌++◌, [], ◌∷◌, length, IfOk, OnOk};
 ghost use Rattle.std.specs.Option.{option_copied};
 ghost use Rattle.kc_base.specs.Limits.{file_limit};
+ghost use Rattle.kc_addresses.specs.Names as spec;
 ghost use Rattle.kc_addresses.specs.Names.{entry_of, gives_name as says_a_name, gives_none as says_no_name, names_of, nearest_below, value_of_name, with_line, IsNamesRead};
 ghost use Rattle.kc_addresses.specs.Lines.{IsAdded};
 
 use crate::fault::MapFault;
-use kc_base::{
-    IMAGE_START, NoMemory, Text, after, first_line, hex_word, prefix, split_at_space,
-};
+use kc_base::{IMAGE_START, NoMemory, Text, after, first_line, hex_word, prefix, split_at_space};
 use kc_debug_script::is_named;
 use kc_obj_module::names::name_is_sound;
 use std::alloc::Global;
@@ -92,12 +91,16 @@ fn add_line(alloc: Global, names: &mut Vec<Name>, line: &[u8]) -> Result<bool, N
     }
 }
 
-// Whether a name in the image stands at or below an address, and nearer than another one.
-fn is_nearer(name: &Name, other: Option<&Name>, addr: u16) -> bool {
-    let is_below = IMAGE_START <= name.value && name.value <= addr;
-    match other {
-        Some(other) => is_below && other.value < name.value,
-        None => is_below,
+// The nearest name so far, or one more where that is nearer.
+fn nearer<'a>(best: Option<&'a Name>, name: &'a Name, addr: u16) -> Option<&'a Name>
+    ensures { option_copied result ≡ spec.nearer addr (option_copied best.entry) name.now }
+{
+    if name.value < IMAGE_START || addr < name.value {
+        return best;
+    }
+    match best {
+        Some(other) if name.value <= other.value => best,
+        _ => Some(name),
     }
 }
 
@@ -146,11 +149,10 @@ impl Names {
     pub fn nearest(&self, addr: u16) -> Option<&Name>
         ensures { option_copied result ≡ nearest_below addr self.now }
     {
+        let names = self.names.as_slice();
         let mut nearest = None;
-        for name in self.names.as_slice() {
-            if is_nearer(name, nearest, addr) {
-                nearest = Some(name);
-            }
+        for name in names {
+            nearest = nearer(nearest, name, addr);
         }
         nearest
     }

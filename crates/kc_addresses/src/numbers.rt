@@ -4,6 +4,7 @@ ghost use Rattle.kc_base.specs.Limits.{max_states};
 ghost use Rattle.kc_addresses.specs.Numbers.{begins_with_digit as has_digit_first, value_of, hex_value_of, count_of};
 
 use kc_base::{decimal, prefix, read_digits};
+use kc_debug_script::number;
 use kc_obj_module::names::digit;
 
 /// Whether the first character of a text is a decimal digit.
@@ -51,6 +52,6 @@ pub fn count(most: u64, text: &[u8]) -> Option<u64>
 {
     match text {
         [b'0', ..] => None,
-        _ => decimal(most, text),
+        _ => number(text, most),
     }
 }

@@ -1,11 +1,11 @@
 // Addresses as authors write them.
-ghost use Rattle.std.specs.Prelude.{◌≡◌, ◌≤◌, ◌<◌, IfSome, length};
-ghost use Rattle.std.specs.List.{before_first, after_first, list_any};
-ghost use Rattle.kc_addresses.specs.Places.{base_of, is_colon, is_plus, known_of, line_place_of, place_of, sum_of};
+ghost use Rattle.std.specs.Prelude.{◌≡◌, ◌≤◌, ◌==◌, not, length};
+ghost use Rattle.std.specs.List.{before_first, after_first, take_while};
+ghost use Rattle.kc_addresses.specs.Places.{base_of, is_colon, is_plus, known_of, line_place_of, place_of, raised_of, sum_of};
 
 use crate::names::Names;
 use crate::numbers::{count, hex_value};
-use kc_base::{decimal, hex_word};
+use kc_base::{after, decimal, hex_word, prefix};
 use kc_debug_script::LineMap;
 
 /// What names mean: the public names of a map, the lines of sources, and the program counter, which `.` is.
@@ -19,29 +19,45 @@ pub struct Known<'a> {
 /// The greatest number of a line of a source.
 const LINE_LIMIT: u64 = 4_294_967_295;
 
+// How many characters stand before the first colon.
+fn colon_place(text: &[u8]) -> usize
+    ensures value { result ≡ length (take_while (λ c. not (c == 58)) text.now) }
+    ensures within { result ≤ length text.now }
+{
+    text.iter().take_while(|c| **c != b':').count()
+}
+
 // What stands before the first colon, and behind it; the whole text and an empty one where there is no colon.
 fn split_at_colon(text: &[u8]) -> (&[u8], &[u8])
     ensures before { result.0.now ≡ before_first is_colon text.now }
     ensures behind { result.1.now ≡ after_first is_colon text.now }
 {
-    let len = text.iter().take_while(|c| **c != b':').count();
-    let (before, rest) = text.split_at(len);
-    match rest {
-        [_, behind @ ..] => (before, behind),
-        [] => (before, rest),
+    let len = colon_place(text);
+    if len < text.len() {
+        (prefix(text, len), after(text, len + 1))
+    } else {
+        (text, after(text, len))
     }
 }
 
-// The same of a plus.
+// How many characters stand before the first plus.
+fn plus_place(text: &[u8]) -> usize
+    ensures value { result ≡ length (take_while (λ c. not (c == 43)) text.now) }
+    ensures within { result ≤ length text.now }
+{
+    text.iter().take_while(|c| **c != b'+').count()
+}
+
+// What stands before the first plus, and behind it; the whole text and an empty one where there is no plus.
 fn split_at_plus(text: &[u8]) -> (&[u8], &[u8])
     ensures before { result.0.now ≡ before_first is_plus text.now }
     ensures behind { result.1.now ≡ after_first is_plus text.now }
 {
-    let len = text.iter().take_while(|c| **c != b'+').count();
-    let (before, rest) = text.split_at(len);
-    match rest {
-        [_, behind @ ..] => (before, behind),
-        [] => (before, rest),
+    let len = plus_place(text);
+    if len < text.len() {
+        (prefix(text, len), after(text, len + 1))
+    } else {
+        (text, after(text, len))
     }
 }
 
@@ -79,19 +95,26 @@ fn sum(addr: u16, more: &[u8]) -> Option<u16>
     addr.checked_add(more as u16)
 }
 
+// An address with a number behind it.
+fn raised(known: Known<'_>, text: &[u8]) -> Option<u16>
+    ensures { result ≡ raised_of (known_of known.entry) text.now }
+{
+    let (first, more) = split_at_plus(text);
+    let addr = base(known, first)?;
+    sum(addr, more)
+}
+
 /// The address that a word writes: four hex digits, a hexadecimal number of the assembler, a public name, `.` for the program counter, one
 /// of these with `+N`, or `MODULE:LINE` for the first address of a line. `None` for any other word, for a name or a line that is not
 /// known, and for a sum above FFFFH. What can be four digits or a name is digits.
 pub fn place(known: Known<'_>, text: &[u8]) -> Option<u16>
     ensures { result ≡ place_of (known_of known.entry) text.now }
 {
-    if text.contains(&b':') {
-        return line_place(known.lines, text);
+    if let Some(addr) = base(known, text) {
+        return Some(addr);
     }
-    if !text.contains(&b'+') {
-        return base(known, text);
+    if let Some(addr) = raised(known, text) {
+        return Some(addr);
     }
-    let (first, more) = split_at_plus(text);
-    let addr = base(known, first)?;
-    sum(addr, more)
+    line_place(known.lines, text)
 }

@@ -1,9 +1,9 @@
 // The words of a line.
-ghost use Rattle.std.specs.Prelude.{◌≡◌, ◌<◌, ◌≤◌, ◌∷◌, [], length, IfSome, IsNone, IsTrue, ◌↔◌};
+ghost use Rattle.std.specs.Prelude.{◌≡◌, ◌<◌, ◌≤◌, ◌∷◌, [], not, length, IfSome, IsNone, IsTrue, ◌↔◌};
 ghost use Rattle.std.specs.List.{take_while};
-ghost use Rattle.kc_addresses.specs.Words.{is_blank as is_space_or_tab, is_over as has_no_word, before_comment as without_comment, first_word, behind_word, words_in, words_with};
+ghost use Rattle.kc_addresses.specs.Words.{is_blank as is_space_or_tab, is_over as has_no_word, before_comment as without_comment, without_blanks as unindented, first_word, behind_word, words_in, words_with};
 
-use kc_base::after;
+use kc_base::{after, prefix};
 
 fn is_blank(c: u8) -> bool
     ensures { result ≡ is_space_or_tab c }
@@ -29,10 +29,17 @@ fn blank_count(text: &[u8]) -> usize
 
 // How long the word at the beginning is.
 fn word_len(text: &[u8]) -> usize
-    ensures value { result ≡ length (first_word text.now) }
+    ensures value { result ≡ length (take_while (λ c. not (is_space_or_tab c)) text.now) }
     ensures within { result ≤ length text.now }
 {
     text.iter().take_while(|c| !is_blank(**c)).count()
+}
+
+// The text without the blanks at its beginning.
+fn without_blanks(text: &[u8]) -> &[u8]
+    ensures { result.now ≡ unindented text.now }
+{
+    after(text, blank_count(text))
 }
 
 /// The first word of a text, and what stands behind it; where there is no word, both are empty. Spaces and tabs stand between words.
@@ -42,8 +49,9 @@ pub fn cut(text: &[u8]) -> (&[u8], &[u8])
     ensures words { words_in text.now ≡ words_with result.0.now result.1.now }
     ensures shorter { 0 < length result.0.now → length result.1.now < length text.now }
 {
-    let text = after(text, blank_count(text));
-    text.split_at(word_len(text))
+    let text = without_blanks(text);
+    let len = word_len(text);
+    (prefix(text, len), after(text, len))
 }
 
 /// The first word of a text, and what stands behind it; `None` where there is no word.
@@ -65,5 +73,5 @@ pub fn is_over(text: &[u8]) -> bool
     ensures first { result ≡ has_no_word text.now }
     ensures words { IsTrue result ↔ (words_in text.now ≡ []) }
 {
-    blank_count(text) == text.len()
+    cut(text).0.is_empty()
 }

@@ -1,6 +1,7 @@
 -- Notes as their author writes them, a line each (this kit's own).
 use Rattle.std.specs.Prelude.{◌≡◌, ℕ, ◌+◌, Bool, true, not, ◌&&◌, ◌==◌, nat_lt, nat_le, if◌then◌else◌, Option, Some, None, Result, Ok, Err, List, [], ◌∷◌, length, map, codes}
 use Rattle.std.specs.List.{list_any, insert, prefix_len}
+use Rattle.std.specs.Option.{option_or}
 use Rattle.std.specs.Str.{bytes_eq}
 use Rattle.kc_base.specs.Fields.{word_of}
 use Rattle.kc_base.specs.Limits.{image_start, max_states, rom_end}
@@ -10,7 +11,7 @@ use Rattle.kc_debug_script.specs.declared.line_map.MapEntry.{MapEntry}
 use Rattle.kc_addresses.specs.Lines.{read_from}
 use Rattle.kc_addresses.specs.Names.{value_of_name}
 use Rattle.kc_addresses.specs.Numbers.{begins_with_digit, count_of}
-use Rattle.kc_addresses.specs.Places.{is_colon, line_place_of}
+use Rattle.kc_addresses.specs.Places.{line_place_of}
 use Rattle.kc_addresses.specs.Words.{before_comment, words_in}
 use Rattle.kc_addresses.specs.declared.names.Name.{Name}
 use Rattle.kc_bound.specs.declared.notes.Loop.{Loop}
@@ -29,9 +30,7 @@ is_in_rom a = nat_le image_start a && nat_lt a rom_end
 -- a word that begins with a digit is four hex digits; any other is `MODULE:LINE`, or a public name
 abbrev pub meant_by : List Name → List MapEntry → List ℕ → Option ℕ
 meant_by names lines word =
-    if begins_with_digit word then word_of word
-    else if list_any is_colon word then line_place_of lines word
-    else value_of_name names word
+    if begins_with_digit word then word_of word else option_or (line_place_of lines word) (value_of_name names word)
 
 -- an address is in the ROM
 abbrev pub address_of : List Name → List MapEntry → List ℕ → Option ℕ

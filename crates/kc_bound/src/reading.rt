@@ -1,6 +1,6 @@
 // Notes as their author writes them, a line each.
 ghost use Rattle.std.specs.Prelude.{◌≡◌, ◌≤◌, ◌<◌, ◌==◌, ◌∷◌, length, map, nat_lt, vec_len, IfOk, IfSome, OnOk, Some};
-ghost use Rattle.std.specs.List.{list_any, prefix_len};
+ghost use Rattle.std.specs.List.{list_any, take_while};
 ghost use Rattle.std.specs.Option.{option_map};
 ghost use Rattle.kc_base.specs.Limits.{file_limit};
 ghost use Rattle.kc_addresses.specs.Lines.{IsAdded};
@@ -33,7 +33,7 @@ impl From<NoMemory> for NotesFault {
 }
 
 /// The most notes, and the most addresses that a note names behind its own.
-const NOTE_LIMIT: u64 = 4096;
+const NOTE_LIMIT: u128 = 4096;
 
 const TARGET_LIMIT: usize = 256;
 
@@ -44,10 +44,10 @@ fn meant_by(names: &Names, lines: &LineMap, word: &[u8]) -> Option<u16>
     if begins_with_digit(word) {
         return hex_word(word);
     }
-    if word.contains(&b':') {
-        return line_place(lines, word);
+    match line_place(lines, word) {
+        Some(addr) => Some(addr),
+        None => names.value(word),
     }
-    names.value(word)
 }
 
 fn is_in_rom(addr: u16) -> bool
@@ -110,7 +110,7 @@ fn are_distinct(addresses: &[u16]) -> bool
 fn are_targets(addresses: &[u16]) -> bool
     ensures { result ≡ spec.are_targets addresses.now }
 {
-    !addresses.is_empty() && addresses.len() <= TARGET_LIMIT && are_distinct(addresses)
+    1 <= addresses.len() && addresses.len() <= TARGET_LIMIT && are_distinct(addresses)
 }
 
 // The addresses of all words of a text, 1 to 256 distinct ones.
@@ -254,41 +254,41 @@ fn no_notes(alloc: Global) -> Notes
 
 // How many loops have their heads below an address; and so on.
 fn loops_below(loops: &[Loop], head: u16) -> usize
-    ensures value { result ≡ prefix_len (λ l. nat_lt l.head head) (map loop_read loops.now) }
+    ensures value { result ≡ length (take_while (λ l. nat_lt l.head head) loops.now) }
     ensures within { result ≤ length loops.now }
 {
     loops.iter().take_while(|l| l.head < head).count()
 }
 
 fn goes_below(goes: &[Goes], jump: u16) -> usize
-    ensures value { result ≡ prefix_len (λ g. nat_lt g.jump jump) (map goes_read goes.now) }
+    ensures value { result ≡ length (take_while (λ g. nat_lt g.jump jump) goes.now) }
     ensures within { result ≤ length goes.now }
 {
     goes.iter().take_while(|g| g.jump < jump).count()
 }
 
 fn words_below(words: &[Moved], block: u16) -> usize
-    ensures value { result ≡ prefix_len (λ m. nat_lt m.block block) words.now }
+    ensures value { result ≡ length (take_while (λ m. nat_lt m.block block) words.now) }
     ensures within { result ≤ length words.now }
 {
     words.iter().take_while(|m| m.block < block).count()
 }
 
 fn ends_below(ends: &[u16], at: u16) -> usize
-    ensures value { result ≡ prefix_len (λ a. nat_lt a at) ends.now }
+    ensures value { result ≡ length (take_while (λ a. nat_lt a at) ends.now) }
     ensures within { result ≤ length ends.now }
 {
     ends.iter().take_while(|a| **a < at).count()
 }
 
 fn is_head(loops: &[Loop], head: u16) -> bool
-    ensures { result ≡ list_any (λ l. l.head == head) (map loop_read loops.now) }
+    ensures { result ≡ list_any (λ l. l.head == head) loops.now }
 {
     loops.iter().any(|l| l.head == head)
 }
 
 fn is_jump(goes: &[Goes], jump: u16) -> bool
-    ensures { result ≡ list_any (λ g. g.jump == jump) (map goes_read goes.now) }
+    ensures { result ≡ list_any (λ g. g.jump == jump) goes.now }
 {
     goes.iter().any(|g| g.jump == jump)
 }
@@ -360,11 +360,69 @@ fn add_end(ends: &mut Vec<u16>, read: Option<u16>) -> Result<bool, NoMemory>
 fn is_full(notes: &Notes) -> bool
     ensures { result ≡ nat_le 4096 (spec.count_of_notes (notes_read notes.now)) }
 {
-    let loops = notes.loops.len() as u64;
-    let goes = notes.goes.len() as u64;
-    let words = notes.words.len() as u64;
-    let ends = notes.ends.len() as u64;
-    loops + goes + words + ends >= NOTE_LIMIT
+    let loops = notes.loops.len() as u128;
+    let goes = notes.goes.len() as u128;
+    let words = notes.words.len() as u128;
+    let ends = notes.ends.len() as u128;
+    NOTE_LIMIT <= loops + goes + words + ends
+}
+
+// Adds the note behind `loop`.
+fn note_loop(
+    alloc: Global,
+    names: &Names,
+    lines: &LineMap,
+    notes: &mut Notes,
+    text: &[u8],
+) -> Result<bool, NoMemory>
+    ensures { IfOk result (λ is_note. IsAdded is_note (spec.with_loops (notes_read notes.old) (spec.with_new (λ l. l.head) (notes_read notes.old).loops (spec.loop_of (spec.address_of names.now lines.now) (words_in text.now)))) (notes_read notes.new)) }
+{
+    let read = read_loop(alloc, names, lines, text)?;
+    let is_note = add_loop(&mut notes.loops, read)?;
+    Ok(is_note)
+}
+
+// Adds the note behind `goes`.
+fn note_goes(
+    alloc: Global,
+    names: &Names,
+    lines: &LineMap,
+    notes: &mut Notes,
+    text: &[u8],
+) -> Result<bool, NoMemory>
+    ensures { IfOk result (λ is_note. IsAdded is_note (spec.with_goes (notes_read notes.old) (spec.with_new (λ g. g.jump) (notes_read notes.old).goes (spec.goes_of (spec.address_of names.now lines.now) (words_in text.now)))) (notes_read notes.new)) }
+{
+    let read = read_goes(alloc, names, lines, text)?;
+    let is_note = add_goes(&mut notes.goes, read)?;
+    Ok(is_note)
+}
+
+// Adds the note behind `words`.
+fn note_moved(
+    names: &Names,
+    lines: &LineMap,
+    notes: &mut Notes,
+    text: &[u8],
+) -> Result<bool, NoMemory>
+    ensures { IfOk result (λ is_note. IsAdded is_note (spec.with_words (notes_read notes.old) (spec.with_new (λ m. m.block) (notes_read notes.old).words (spec.moved_of (spec.address_of names.now lines.now) (words_in text.now)))) (notes_read notes.new)) }
+{
+    let read = read_moved(names, lines, text);
+    let is_note = add_moved(&mut notes.words, read)?;
+    Ok(is_note)
+}
+
+// Adds the note behind `ends`.
+fn note_end(
+    names: &Names,
+    lines: &LineMap,
+    notes: &mut Notes,
+    text: &[u8],
+) -> Result<bool, NoMemory>
+    ensures { IfOk result (λ is_note. IsAdded is_note (spec.with_ends (notes_read notes.old) (spec.with_new (λ a. a) (notes_read notes.old).ends (spec.end_of (spec.address_of names.now lines.now) (words_in text.now)))) (notes_read notes.new)) }
+{
+    let read = read_end(names, lines, text);
+    let is_note = add_end(&mut notes.ends, read)?;
+    Ok(is_note)
 }
 
 // Adds what stands behind the word of a note; `false` where it is none.
@@ -378,19 +436,19 @@ fn add_fields(
 ) -> Result<bool, NoMemory>
     ensures { IfOk result (λ is_note. IsAdded is_note (spec.with_fields (spec.address_of names.now lines.now) (notes_read notes.old) word.now (words_in text.now)) (notes_read notes.new)) }
 {
-    match word {
-        b"loop" => {
-            let read = read_loop(alloc, names, lines, text)?;
-            add_loop(&mut notes.loops, read)
-        }
-        b"goes" => {
-            let read = read_goes(alloc, names, lines, text)?;
-            add_goes(&mut notes.goes, read)
-        }
-        b"words" => add_moved(&mut notes.words, read_moved(names, lines, text)),
-        b"ends" => add_end(&mut notes.ends, read_end(names, lines, text)),
-        _ => Ok(false),
+    if word == b"loop".as_slice() {
+        return note_loop(alloc, names, lines, notes, text);
     }
+    if word == b"goes".as_slice() {
+        return note_goes(alloc, names, lines, notes, text);
+    }
+    if word == b"words".as_slice() {
+        return note_moved(names, lines, notes, text);
+    }
+    if word == b"ends".as_slice() {
+        return note_end(names, lines, notes, text);
+    }
+    Ok(false)
 }
 
 // Adds the note of a line, if it has words; `false` where they are none.

@@ -1,7 +1,5 @@
 -- The fields of a line of a debugger script or of a line map (this kit's own).
-use Rattle.std.specs.Prelude.{ℕ, Bool, nat_le, if◌then◌else◌, Option, Some, None, List, map}
-use Rattle.std.specs.Char.{to_ascii_uppercase}
-use Rattle.std.specs.Str.{bytes_eq}
+use Rattle.std.specs.Prelude.{ℕ, Bool, nat_le, if◌then◌else◌, Option, Some, None, List}
 use Rattle.kc_base.specs.Fields.{decimal_of}
 
 -- what passes a test
@@ -12,7 +10,3 @@ if_is test (Some a) = if test a then Some a else None
 -- a number: decimal digits, from 1 to a limit
 abbrev pub number_of : ℕ → List ℕ → Option ℕ
 number_of limit text = if_is (λ n. nat_le 1 n) (decimal_of limit text)
-
--- a name, which is in upper case, is this word, whose letters are in either case
-abbrev pub is_named : List ℕ → List ℕ → Bool
-is_named name word = bytes_eq name (map to_ascii_uppercase word)

@@ -3,6 +3,7 @@ use Rattle.std.specs.Prelude.{◌≡◌, ℕ, ◌-◌, ◌<◌, ◌≤◌, ◌^�
 use Rattle.std.specs.List.{list_any}
 use Rattle.std.specs.Char.{is_ascii_lowercase}
 use Rattle.std.specs.Option.{option_map}
+use Rattle.std.specs.Str.{str_eq_ignore_ascii_case}
 use Rattle.kc_base.specs.Fields.{first_of, second_of, third_of, word_of}
 use Rattle.kc_base.specs.Limits.{image_start}
 use Rattle.kc_base.specs.TextLines.{text_lines}
@@ -10,7 +11,7 @@ use Rattle.kc_obj_module.specs.Names.{is_name}
 use Rattle.kc_debug_script.specs.declared.line_map.MapEntry.{MapEntry}
 use Rattle.kc_debug_script.specs.declared.fault.DebugFault.{DebugFault}
 use Rattle.kc_debug_script.specs.declared.fault.DebugFault.TheVariants as faults
-use Rattle.kc_debug_script.specs.Fields.{if_is, number_of, is_named}
+use Rattle.kc_debug_script.specs.Fields.{if_is, number_of}
 use Rattle.kc_debug_script.specs.Reading.{said}
 
 -- ---- a line: an address, the name of a module, and a line of its source, with single spaces between them
@@ -70,7 +71,7 @@ pub record IsOrdered (entries : List MapEntry) : Type 0 where
 
 -- the first address of a line of a module, whose name is in letters of either case
 abbrev pub address_of : List MapEntry → List ℕ → ℕ → Option ℕ
-address_of entries name line = option_map (λ e. e.addr) (find (λ e. (e.line == line) && is_named e.name name) entries)
+address_of entries name line = option_map (λ e. e.addr) (find (λ e. (e.line == line) && str_eq_ignore_ascii_case e.name name) entries)
 
 -- the entry of an address
 abbrev pub entry_at : List MapEntry → ℕ → Option MapEntry

@@ -1,12 +1,13 @@
 // The fields of lines.
 ghost use Rattle.std.specs.Prelude.{◌≡◌, ◌≤◌, IfSome};
+ghost use Rattle.std.specs.Str.{str_eq_ignore_ascii_case};
 ghost use Rattle.kc_base.specs.Limits.{max_states};
-ghost use Rattle.kc_debug_script.specs.Fields.{number_of, is_named as names};
+ghost use Rattle.kc_debug_script.specs.Fields.{number_of};
 
 use kc_base::decimal;
 
-/// A number: decimal digits, from 1 to a limit.
-pub(crate) fn number(text: &[u8], limit: u64) -> Option<u64>
+/// A number: decimal digits, from 1 to a limit. `None` for any other text.
+pub fn number(text: &[u8], limit: u64) -> Option<u64>
     requires { limit ≤ max_states }
     ensures value { result ≡ number_of limit text.now }
     ensures bounded { IfSome result (λ n. (1 ≤ n) × (n ≤ limit)) }
@@ -17,13 +18,9 @@ pub(crate) fn number(text: &[u8], limit: u64) -> Option<u64>
     }
 }
 
-/// Whether a name, which is in upper case, is this word, whose letters may be in either case.
+/// Whether two names have the same letters, each in either case.
 pub fn is_named(name: &[u8], word: &[u8]) -> bool
-    ensures { result ≡ names name.now word.now }
+    ensures { result ≡ str_eq_ignore_ascii_case name.now word.now }
 {
-    name.len() == word.len()
-        && name
-            .iter()
-            .zip(word.iter())
-            .all(|(c, d)| *c == d.to_ascii_uppercase())
+    name.eq_ignore_ascii_case(word)
 }

@@ -156,10 +156,8 @@ impl LineMap {
     pub fn address_of(&self, name: &[u8], line: u32) -> Option<u16>
         ensures { result ≡ address_of self.now name.now line }
     {
-        let entry = self
-            .entries
-            .iter()
-            .find(|entry| entry.line == line && is_named(entry.name.as_slice(), name))?;
+        let entry = self.entries.iter().find(|entry| entry.line == line
+            && is_named(entry.name.as_slice(), name))?;
         Some(entry.addr)
     }
 
