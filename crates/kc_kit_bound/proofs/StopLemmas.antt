@@ -1,5 +1,5 @@
 -- The first of so many addresses that passes a test, from one address on.
-use Rattle.std.proofs.Common.{◌≡◌, ℕ, suc, ◌+◌, ◌-◌, ◌<◌, ◌≤◌, Bool, true, false, cond, Option, Some, None, refl, sym, ◌∙◌, ap, subst, arith}
+use Rattle.std.proofs.Common.{◌≡◌, ℕ, suc, ◌+◌, ◌-◌, ◌<◌, ◌≤◌, Bool, true, false, cond, Some, None, refl, sym, ◌∙◌, ap, subst, arith}
 use Rattle.kc_kit_bound.specs.Stops.{first_among}
 
 module _ (test : ℕ → Bool) (a : ℕ) where

@@ -26,7 +26,7 @@ refusals_text refusals = flat_map (λ (r : Refusal). refusal_line (word_of r.why
 pub record AreRefused (image : List ℕ) (notes : Notes) (text : List ℕ) : Type 0 where
   pub refusals : List Refusal
   pub found : AreRefusals image notes refusals
-  pub text : text ≡ refusals_text refusals
+  pub printed : text ≡ refusals_text refusals
 
 -- or the line of a bound that is too long, alone
 abbrev pub IsRefused : List ℕ → Notes → ℕ → List ℕ → Type 0

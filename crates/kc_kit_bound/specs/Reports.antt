@@ -49,7 +49,7 @@ pub record IsBoundText (image : List ℕ) (notes : Notes) (from : ℕ) (text : L
   pub bound : Bound
   pub shows : Shows image notes from certificate bound
   pub most : bound.over ≤ max_states
-  pub text : text ≡ bound_text image notes from certificate bound
+  pub printed : text ≡ bound_text image notes from certificate bound
 
 -- whether a bound is printed, with the text
 abbrev pub IsReport : List ℕ → Notes → ℕ → Bool → List ℕ → Type 0
