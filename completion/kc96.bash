@@ -37,7 +37,7 @@ _kc96() {
     local options files option left=
     COMPREPLY=()
     if [ "$COMP_CWORD" -eq 1 ]; then
-        mapfile -t COMPREPLY < <(compgen -W 'run asm lib link hex dis debug vcd check gen explain --help --version' -- "$word")
+        mapfile -t COMPREPLY < <(compgen -W 'run asm lib link hex dis debug vcd check bound gen explain --help --version' -- "$word")
         return
     fi
     case $command in
@@ -49,16 +49,17 @@ _kc96() {
     dis) options='' files='hex' ;;
     vcd) options='--out --stim --analog --clock' files='trace' ;;
     check) options='--stim --clock' files='trace' ;;
+    bound) options='--to --notes --map --lines' files='hex' ;;
     debug) options='--lives --stim --analog --lines' files='hex' ;;
     *) return ;;
     esac
     case $before in
-    --stim | --analog | --out | --lib | --list | --lines | --map | --profile | --cover)
+    --stim | --analog | --out | --lib | --list | --lines | --map | --notes | --profile | --cover)
         compopt -o filenames
         _kc96_files "$word"
         return
         ;;
-    --states | --lives | --clock | --reg | --code | --data | --stack) return ;;
+    --states | --lives | --clock | --to | --reg | --code | --data | --stack) return ;;
     esac
     for option in $options; do
         _kc96_stands "$option" && continue

@@ -33,6 +33,8 @@ TEXTS = {
     "falls.stm": "@5 HSI0 1\n@4 HSI0 0\n",
     "good.ana": "@0 0 512\n@40 1 7\n",
     "good.lines": "2080 NOP 2\n",
+    "good.map": "public 2080 FIRST NOP\n",
+    "good.notes": "loop NOP:2 3\n",
     "nop.hex": NOP_HEX,
     "damaged.hex": NOP_HEX.replace("62\n", "63\n", 1),
     "good.scr": "s 1\nm 0018 2\nl\nq\n",
@@ -81,6 +83,8 @@ ROWS = [
     "vcd good.trace --stim turns.stm --analog good.ana --out new.vcd",
     "check good.trace good.rules --stim turns.stm",
     "check good.trace good.rules --clock 16000000",
+    "bound nop.hex FIRST --map good.map --lines good.lines --notes good.notes",
+    "bound nop.hex 2080",
     "explain E07",
     "gen 7",
     "--help",
@@ -95,15 +99,15 @@ OLD = b"as it was\n"
 def written_by(words):
     """Returns the files that a command writes."""
     found = [word for option, word in zip(words, words[1:]) if option in WRITING]
-    return [] if words[0] == "debug" else found
+    return [] if words[0] in ("debug", "bound") else found
 
 
 def read_by(words):
     """Returns the files that a command reads."""
-    options = {"--stim", "--analog", "--lib", *(["--lines"] if words[0] == "debug" else [])}
+    options = {"--stim", "--analog", "--lib", *(["--lines"] if words[0] == "debug" else ["--lines", "--map", "--notes"] if words[0] == "bound" else [])}
     found = [word for option, word in zip(words, words[1:]) if option in options]
     files = words[1 : next((at for at, word in enumerate(words) if at and word.startswith("-")), len(words))]
-    return ([] if words[0] in ("explain", "gen") else files[:1] if words[0] == "dis" else files) + found
+    return ([] if words[0] in ("explain", "gen") else files[:1] if words[0] in ("dis", "bound") else files) + found
 
 
 def digest(content):

@@ -14,3 +14,4 @@ pub mod OnWays
 pub mod Steps
 pub mod Passes
 mod CheckLemmas
+mod ReadingLemmas

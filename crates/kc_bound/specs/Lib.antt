@@ -6,3 +6,4 @@ pub mod Certified
 pub mod Bounded
 pub mod Steps
 pub mod Times
+pub mod Reading

@@ -12,11 +12,14 @@ mod instruction_ways;
 mod laws;
 mod looking;
 mod notes;
+mod reading;
 mod way;
 
 pub use certificate::{Bound, Certificate, Standing};
 pub use checking::checked;
 pub use instruction_ways::ways;
 pub use laws::{certified_is_bounded, found_is_decoded, states_are_most, turn_is_paid};
+pub use looking::{found_at, is_end};
 pub use notes::{Goes, Loop, Moved, Notes};
+pub use reading::{NotesFault, address};
 pub use way::Way;

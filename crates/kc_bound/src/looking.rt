@@ -14,9 +14,9 @@ use kc_exec::distance_of;
 use kc_exec_spec::{Computation, Plan};
 use kc_isa::{Insn, Operand, Place, length, states};
 
-// What stands at an address, with all its bytes in the ROM.
+/// What stands at an address of an image, with all its bytes in the ROM.
 #[tactic(auto, unfolding(crate::specs::Ways::found_at))]
-pub(crate) fn found_at(image: &Image, at: u16) -> Decoded
+pub fn found_at(image: &Image, at: u16) -> Decoded
     ensures value { result ≡ spec.found_at image.now at }
     ensures formed { IsFormedWhole result }
 {
@@ -42,7 +42,8 @@ pub(crate) fn is_among(addresses: &[u16], at: u16) -> bool
     addresses.iter().any(|a| *a == at)
 }
 
-pub(crate) fn is_end(notes: &Notes, at: u16) -> bool
+/// Whether notes end a pass where an address would begin.
+pub fn is_end(notes: &Notes, at: u16) -> bool
     ensures { result ≡ notes_say.is_end notes.now at }
 {
     is_among(notes.ends.as_slice(), at)

@@ -2,6 +2,8 @@
 use Rattle.std.specs.Prelude.{◌≡◌, ℕ, ◌-◌, ◌<◌, ◌≤◌, ◌^◌, nat_lt, nat_le, Bool, true, ◌&&◌, Option, Some, None, Result, Ok, Err, List, [], ◌∷◌, length, find, slice_get, ◌==◌, if◌then◌else◌, All}
 use Rattle.std.specs.List.{list_any}
 use Rattle.std.specs.Char.{is_ascii_lowercase}
+use Rattle.std.specs.Option.{option_map}
+use Rattle.std.specs.Str.{str_eq_ignore_ascii_case}
 use Rattle.kc_base.specs.Fields.{first_of, second_of, third_of, word_of}
 use Rattle.kc_base.specs.Limits.{image_start}
 use Rattle.kc_base.specs.TextLines.{text_lines}
@@ -66,6 +68,10 @@ Rises (e ∷ f ∷ es) = (e.addr < f.addr) × Rises (f ∷ es)
 pub record IsOrdered (entries : List MapEntry) : Type 0 where
   pub high : All (λ e. image_start ≤ e.addr) entries
   pub rises : Rises entries
+
+-- the first address of a line of a module, whose name is in letters of either case
+abbrev pub address_of : List MapEntry → List ℕ → ℕ → Option ℕ
+address_of entries name line = option_map (λ e. e.addr) (find (λ e. (e.line == line) && str_eq_ignore_ascii_case e.name name) entries)
 
 -- the entry of an address
 abbrev pub entry_at : List MapEntry → ℕ → Option MapEntry

@@ -12,6 +12,7 @@ mod script;
 
 pub use command::Command;
 pub use fault::DebugFault;
+pub use fields::{is_named, number};
 pub use laws::{
     commands_are_read_back, maps_are_entries, maps_are_read_back, scripts_are_commands,
     scripts_are_read_back,

@@ -3,10 +3,10 @@ ghost use Rattle.kc_base.specs.Limits.{file_limit};
 ghost use Rattle.std.specs.Char.{is_ascii_lowercase};
 ghost use Rattle.std.specs.List.{list_any};
 ghost use Rattle.std.specs.Option.{option_copied};
-ghost use Rattle.kc_debug_script.specs.LineMap.{map_address as address_in_map, is_below as comes_above, may_come as is_next, entry_after, entry_of, map_of, entry_at, IsMapRead, IsOrdered};
+ghost use Rattle.kc_debug_script.specs.LineMap.{map_address as address_in_map, is_below as comes_above, may_come as is_next, entry_after, entry_of, map_of, address_of, entry_at, IsMapRead, IsOrdered};
 
 use crate::fault::DebugFault;
-use crate::fields::number;
+use crate::fields::{is_named, number};
 use kc_base::{IMAGE_START, NoMemory, Text, after, first_line, hex_word, prefix, split_at_space};
 use kc_obj_module::names::name_is_sound;
 use std::alloc::Global;
@@ -150,6 +150,15 @@ impl LineMap {
             rest = after(rest, used);
         }
         Ok(LineMap { entries })
+    }
+
+    /// The first address of a line of a module, whose name may be in letters of either case; `None` where the map has none.
+    pub fn address_of(&self, name: &[u8], line: u32) -> Option<u16>
+        ensures { result ≡ address_of self.now name.now line }
+    {
+        let entry = self.entries.iter().find(|entry| entry.line == line
+            && is_named(entry.name.as_slice(), name))?;
+        Some(entry.addr)
     }
 
     /// The entry of an address; `None` where the map has none.

@@ -33,7 +33,7 @@ use Rattle.kc_kit_files.specs.declared.status.Status.TheVariants as status
 use Rattle.kc_kit_files.specs.Response.{Response, Write, write, says, reports, before, joined, Then}
 use Rattle.kc_kit_files.specs.Writes.{first_long, unless_long, writing_readable, AreReadable}
 use Rattle.kc_base.specs.Limits.{file_limit}
-use Rattle.kc_kit_files.specs.Reads.{read_of, reads_of, text_of, long_response, missing_response, FailedRead}
+use Rattle.kc_kit_files.specs.Reads.{read_of, reads_of, text_of, long_response, missing_response, Holds, FailedRead}
 use Rattle.kc_kit_files.specs.Outside.{Kept, Shown, OthersStay, Wrote, WroteByPart, SinkFailed, WriteFailed, IsGiven, Responses}
 use Rattle.kc_kit_files.proofs.LongLemmas.{written-all}
 use Rattle.kc_kit_files.proofs.ResponseLemmas.{given-of}
@@ -48,7 +48,7 @@ use Rattle.kc_kit_words.specs.declared.extent.Extent.{Extent}
 use Rattle.kc_kit_words.specs.declared.inputs.Role.{Role}
 use Rattle.kc_kit_words.specs.declared.inputs.Role.TheVariants as role
 use Rattle.kc_lib.specs.Taking.{AreTaken}
-use Rattle.kc_kit_words.specs.Commands.{Behind, Beside, Command, Helps, HelpsOn, ReportsVersion, Runs, Profiles, Assembles, Packs, Links, RunsHex, ProfilesHex, Lists, Debugs, Generates, Dumps, Checks, Explains, names_of, names_read, names_written, names_beside, names_behind, names_whole}
+use Rattle.kc_kit_words.specs.Commands.{Behind, Beside, Command, Helps, HelpsOn, ReportsVersion, Runs, Profiles, Assembles, Packs, Links, RunsHex, ProfilesHex, Lists, Debugs, Generates, Dumps, Checks, Bounds, Explains, names_of, names_read, names_written, names_beside, names_behind, names_whole}
 use Rattle.kc_kit_words.specs.Words.{placing_of}
 use Rattle.kc_kit_inputs.specs.declared.driving.Driving.{Driving}
 use Rattle.kc_kit_inputs.specs.Analog.{by_bad_line, values_of}
@@ -67,7 +67,9 @@ use Rattle.kc_stim.specs.Faults.{place_of}
 use Rattle.kc_kit_inputs.specs.Stimuli.{by_fault, drives_of}
 use Rattle.kc_kit_inputs.specs.Stimuli as stimulus
 use Rattle.kc_kit_answer.specs.Accepting.{Accepting, IsOneText, AreTwoTexts, reported}
-use Rattle.kc_kit_answer.specs.Answer.{OneText, TwoTexts, Parted, CommandAnswer, MayAnswer, IsAccepted, EndsAccepted, StaysBut}
+use Rattle.kc_kit_answer.specs.Answer.{OneText, TwoTexts, Parted, CommandAnswer, MayAnswer, IsAccepted, AsksForNoAddress, IsUsage, EndsAccepted, StaysBut}
+use Rattle.kc_kit_answer.specs.Bound.{BoundAnswer, AreBoundable}
+use Rattle.kc_kit_answer.proofs.BoundLemmas.{IsFound, BoundEnds, bound-ends, bound-done}
 use Rattle.kc_kit_answer.specs.Assemble.{AreListings, AssembleAnswer, IsAssemblable}
 use Rattle.kc_kit_running.specs.Scripted.{debugged_by, debugged_in_lives, debugger_response, end_in}
 use Rattle.kc_kit_answer.specs.Debug.{debug_response, DebugAnswer, IsDebuggable}
@@ -430,62 +432,139 @@ sound-explained : (ns : List (List ℕ)) (code : List ℕ) (row : Option Said) �
 sound-explained ns code (Some row) = sound-says ns status.Done _ refl
 sound-explained ns code None = record { reported = refl; named = inl refl }
 
-pub sound-command : (c : Command) (contents : List (Option (List ℕ))) (r : Response) → CommandAnswer AnyDiagnostic (Some c) contents r → IsSound (names_written (Some c)) r
-sound-command Helps contents r h = subst (IsSound []) (sym h) (sound-says [] status.Done _ refl)
-sound-command (HelpsOn verb) contents r h = subst (IsSound []) (sym h) (sound-says [] status.Done _ refl)
-sound-command ReportsVersion contents r h = subst (IsSound []) (sym h) (sound-says [] status.Done _ refl)
-sound-command (Runs files inputs extent placing) contents r h =
+-- `bound` may be answered as words are that are no command; every other command is not
+
+abbrev pub IsOther : Command → Type 0
+IsOther (Bounds file from to inputs) = ⊥
+IsOther _ = Unit {0}
+
+-- the words of a bound
+pub record IsBounds (c : Command) : Type 0 where
+  pub file : List ℕ
+  pub from : List ℕ
+  pub to : Option (List ℕ)
+  pub inputs : List (Role × List ℕ)
+  pub is : c ≡ Bounds file from to inputs
+
+bounds-or-other : (c : Command) → IsOther c ⊎ IsBounds c
+bounds-or-other Helps = inl tt
+bounds-or-other (HelpsOn verb) = inl tt
+bounds-or-other ReportsVersion = inl tt
+bounds-or-other (Runs files inputs extent placing) = inl tt
+bounds-or-other (Profiles files inputs extent placing behind) = inl tt
+bounds-or-other (ProfilesHex file inputs extent out) = inl tt
+bounds-or-other (Assembles file out list) = inl tt
+bounds-or-other (Packs files out) = inl tt
+bounds-or-other (Links files inputs out beside placing) = inl tt
+bounds-or-other (RunsHex file inputs extent) = inl tt
+bounds-or-other (Lists file first last) = inl tt
+bounds-or-other (Debugs file script inputs lives) = inl tt
+bounds-or-other (Generates number) = inl tt
+bounds-or-other (Dumps trace inputs out clock) = inl tt
+bounds-or-other (Checks trace rules inputs clock) = inl tt
+bounds-or-other (Bounds file from to inputs) = inr (record { file = file; from = from; to = to; inputs = inputs; is = refl })
+bounds-or-other (Explains code) = inl tt
+
+pub sound-command : (c : Command) → IsOther c → (contents : List (Option (List ℕ))) (r : Response) → CommandAnswer AnyDiagnostic (Some c) contents r → IsSound (names_written (Some c)) r
+sound-command Helps o contents r h = subst (IsSound []) (sym h) (sound-says [] status.Done _ refl)
+sound-command (HelpsOn verb) o contents r h = subst (IsSound []) (sym h) (sound-says [] status.Done _ refl)
+sound-command ReportsVersion o contents r h = subst (IsSound []) (sym h) (sound-says [] status.Done _ refl)
+sound-command (Runs files inputs extent placing) o contents r h =
     let names = files ++ names_of inputs in
     then-all (IsSound []) (reads_of names contents) (Parted (length files) (RunAnswer AnyDiagnostic files inputs extent placing)) r (sound-reads [] names contents)
     (λ texts e k. sound-sources [] files (given_for inputs (drop (length files) texts)) placing (take (length files) texts) (λ lines. board_response lines extent) r
     (sound-run [] extent) k) h
-sound-command (Profiles files inputs extent placing behind) contents r h =
+sound-command (Profiles files inputs extent placing behind) o contents r h =
     let ns = names_behind behind in
     let names = files ++ names_of inputs in
     then-all (IsSound ns) (reads_of names contents) (Parted (length files) (ProfileAnswer AnyDiagnostic files inputs extent placing behind)) r (sound-reads ns names contents)
     (λ texts e k. sound-lines ns files (given_for inputs (drop (length files) texts)) placing (take (length files) texts) (profile_response extent behind) r (sound-profile extent behind) k) h
-sound-command (ProfilesHex file inputs extent out) contents r h =
+sound-command (ProfilesHex file inputs extent out) o contents r h =
     let ns = out ∷ [] in
     let names = file ∷ names_of inputs in
     then-all (IsSound ns) (reads_of names contents) (Parted 1 (λ texts more. OneText (λ text. ProfileHexAnswer file inputs extent out text more) texts)) r (sound-reads ns names contents)
     (λ texts e k. sound-one ns (λ text. ProfileHexAnswer file inputs extent out text (drop 1 texts)) (take 1 texts) r
     (λ t l. sound-hex-reported ns file (given_for inputs (drop 1 texts)) t (profile_response extent (record { profile = Some out; cover = None }) none_known) r (sound-profile extent (record { profile = Some out; cover = None }) none_known) l) k) h
-sound-command (Assembles file out list) contents r h =
+sound-command (Assembles file out list) o contents r h =
     let ns = out ∷ option_to_list list in
     then-all (IsSound ns) (reads_of (file ∷ []) contents) (OneText (AssembleAnswer AnyDiagnostic file out list)) r (sound-reads ns (file ∷ []) contents)
     (λ texts e k. sound-one ns (AssembleAnswer AnyDiagnostic file out list) texts r (λ t l. sound-object-of file out list t r l) k) h
-sound-command (Packs files out) contents r h =
+sound-command (Packs files out) o contents r h =
     then-all (IsSound (out ∷ [])) (reads_of files contents) (PackAnswer files out) r (sound-reads (out ∷ []) files contents) (λ texts e k. sound-pack files out texts r k) h
-sound-command (Links files inputs out beside placing) contents r h =
+sound-command (Links files inputs out beside placing) o contents r h =
     let ns = out ∷ names_beside beside in
     let names = files ++ names_of inputs in
     then-all (IsSound ns) (reads_of names contents) (Parted (length files) (LinkAnswer files inputs out beside placing)) r (sound-reads ns names contents)
     (λ texts e k. sound-link files (input_for role.Library inputs (drop (length files) texts)) out beside placing (take (length files) texts) r k) h
-sound-command (RunsHex file inputs extent) contents r h =
+sound-command (RunsHex file inputs extent) o contents r h =
     let names = file ∷ names_of inputs in
     then-all (IsSound []) (reads_of names contents) (Parted 1 (λ texts more. OneText (λ text. RunHexAnswer file inputs extent text more) texts)) r (sound-reads [] names contents)
     (λ texts e k. sound-one [] (λ text. RunHexAnswer file inputs extent text (drop 1 texts)) (take 1 texts) r
     (λ t l. sound-hex-reported [] file (given_for inputs (drop 1 texts)) t (board_response no_lines extent) r (sound-run [] extent no_lines) l) k) h
-sound-command (Lists file first last) contents r h =
+sound-command (Lists file first last) o contents r h =
     then-all (IsSound []) (reads_of (file ∷ []) contents) (OneText (ListAnswer file first last)) r (sound-reads [] (file ∷ []) contents)
     (λ texts e k. sound-one [] (ListAnswer file first last) texts r
     (λ t l. then-all (IsSound []) (hex_of file t) (ListingOf first last) r (sound-hex [] file t (image_of t)) (λ image f m. subst (IsSound []) (sym m) (sound-says [] status.Done _ refl)) l) k) h
-sound-command (Debugs file script inputs lives) contents r h =
+sound-command (Debugs file script inputs lives) o contents r h =
     let names = file ∷ script ∷ names_of inputs in
     then-all (IsSound []) (reads_of names contents) (Parted 2 (λ texts more. TwoTexts (λ text commands. DebugAnswer file script inputs lives text commands more) texts)) r (sound-reads [] names contents)
     (λ texts e k. sound-two [] (λ text commands. DebugAnswer file script inputs lives text commands (drop 2 texts)) (take 2 texts) r
     (λ t u l. sound-hex-reported [] file (given_for inputs (drop 2 texts)) t (debug_response (script, u) (input_for role.Lines inputs (drop 2 texts)) lives) r
     (λ driving image. sound-debug [] (script, u) (input_for role.Lines inputs (drop 2 texts)) lives driving image) l) k) h
-sound-command (Generates number) contents r h = sound-sources [] made_names (made_given number) (placing_of []) (made_texts number) (λ lines. summary_of number) r (λ lines. sound-summary [] number) h
-sound-command (Dumps trace inputs out clock) contents r h =
+sound-command (Generates number) o contents r h = sound-sources [] made_names (made_given number) (placing_of []) (made_texts number) (λ lines. summary_of number) r (λ lines. sound-summary [] number) h
+sound-command (Dumps trace inputs out clock) o contents r h =
     let names = names_of inputs in
     then-all (IsSound (out ∷ [])) (reads_of names contents) (λ texts. TraceThen trace (λ printed. DumpAnswer trace inputs out clock printed texts) (drop (length names) contents)) r (sound-reads (out ∷ []) names contents)
     (λ texts e k. sound-trace (out ∷ []) trace (λ printed. DumpAnswer trace inputs out clock printed texts) (drop (length names) contents) r (λ printed l. sound-dump trace inputs out clock printed texts r l) k) h
-sound-command (Checks trace rules inputs clock) contents r h =
+sound-command (Checks trace rules inputs clock) o contents r h =
     let names = names_whole rules inputs in
     then-all (IsSound []) (reads_of names contents) (λ texts. TraceThen trace (λ printed. CheckTexts trace rules inputs clock printed texts) (drop (length names) contents)) r (sound-reads [] names contents)
     (λ texts e k. sound-trace [] trace (λ printed. CheckTexts trace rules inputs clock printed texts) (drop (length names) contents) r (λ printed l. sound-check-texts trace rules inputs clock printed texts r l) k) h
-sound-command (Explains code) contents r h = subst (IsSound []) (sym h) (sound-explained [] code (said_of code))
+sound-command (Bounds file from to inputs) o contents r h = absurd o
+sound-command (Explains code) o contents r h = subst (IsSound []) (sym h) (sound-explained [] code (said_of code))
+
+-- what `bound` answers: no file is written, and the status is another one, or that of usage where it asks for no address of the ROM
+record IsBoundSound (asks : Type 0) (r : Response) : Type 0 where
+  pub none : r.writes ≡ []
+  pub reported : (is_reported r.status ≡ true) ⊎ ((r.status ≡ status.Usage) × asks)
+
+none-of-sound : (r : Response) → IsSound [] r → r.writes ≡ []
+none-of-sound r s = by r.writes s.named
+  where
+    by : (ws : List Write) → (ws ≡ []) ⊎ (map (λ (w : Write). w.name) ws ≡ []) → ws ≡ []
+    by ws (inl e) = e
+    by [] (inr e) = refl
+    by (w ∷ ws) (inr e) = absurd (cc)
+
+bound-of-sound : (asks : Type 0) (r : Response) → IsSound [] r → IsBoundSound asks r
+bound-of-sound asks r s = record { none = none-of-sound r s; reported = inl s.reported }
+
+found-reported : (s : Status) → IsFound s → is_reported s ≡ true
+found-reported s (inl e) = ap is_reported e
+found-reported s (inr e) = ap is_reported e
+
+bound-of-ends : (unknown asks : Type 0) (r : Response) → (unknown → asks) → BoundEnds unknown r → IsBoundSound asks r
+bound-of-ends unknown asks r f h = record { none = h.0; reported = by h.1 }
+  where
+    by : (r.status ≡ status.Input) ⊎ (((r.status ≡ status.Usage) × unknown) ⊎ IsFound r.status) → (is_reported r.status ≡ true) ⊎ ((r.status ≡ status.Usage) × asks)
+    by (inl e) = inl (ap is_reported e)
+    by (inr (inl u)) = inr (u.0, f u.1)
+    by (inr (inr is)) = inl (found-reported r.status is)
+
+sound-bound : (file from : List ℕ) (to : Option (List ℕ)) (inputs : List (Role × List ℕ)) (contents : List (Option (List ℕ))) (r : Response) →
+    CommandAnswer AnyDiagnostic (Some (Bounds file from to inputs)) contents r → IsBoundSound (AsksForNoAddress file from to inputs contents) r
+sound-bound file from to inputs contents r h = by (reads_of (file ∷ names_of inputs) contents) refl h
+  where
+    by : (x : Result (List (List ℕ)) Response) → reads_of (file ∷ names_of inputs) contents ≡ x → Then x (Parted 1 (λ texts more. OneText (λ text. BoundAnswer file from to inputs text more) texts)) r →
+        IsBoundSound (AsksForNoAddress file from to inputs contents) r
+    by (Ok texts) f k =
+        bound-of-ends (AreBoundable false from to inputs (take 1 texts) (drop 1 texts)) _ r
+        (λ u. subst (Accepting (λ texts. AreBoundable false from to inputs (take 1 texts) (drop 1 texts))) (sym f) u) (bound-ends file from to inputs (drop 1 texts) r (take 1 texts) k)
+    by (Err e) f k = bound-of-sound _ r (subst (IsSound []) (sym k) (sound-reads [] (file ∷ names_of inputs) contents e f))
+
+bound-command : (c : Command) (is : IsBounds c) (contents : List (Option (List ℕ))) (r : Response) → CommandAnswer AnyDiagnostic (Some c) contents r → IsBoundSound (AsksForNoAddress is.file is.from is.to is.inputs contents) r
+bound-command c is contents r h =
+    sound-bound is.file is.from is.to is.inputs contents r (subst (λ d. CommandAnswer AnyDiagnostic (Some d) contents r) is.is h)
 
 -- a read that has failed
 failed-says : (names : List (List ℕ)) (contents : List (Option (List ℕ))) (rose : Type 0) (r : Response) → FailedRead names contents rose r → rose × (r.status ≡ status.ReadFault) × (r.writes ≡ [])
@@ -496,16 +575,38 @@ failed-says (n ∷ names) (c ∷ contents) rose r (inr h) = failed-says names co
 
 -- ---- what may be answered to a command
 
--- it is no usage, or there is no command
-pub may-usage : (c : Option Command) (reported : Option Holding) (rose : Type 0) (r : Response) → MayAnswer AnyDiagnostic c reported rose r → r.status ≡ status.Usage → c ≡ None
-may-usage None reported rose r h e = refl
-may-usage (Some c) reported rose r (contents, holds, inl h) e = absurd (let s = (sound-command c contents r h).reported in let f : is_reported status.Usage ≡ true = subst (λ k. is_reported k ≡ true) e s in let g : false ≡ true = f in cc)
+-- the status of usage
+pub may-usage : (c : Option Command) (reported : Option Holding) (rose : Type 0) (r : Response) → MayAnswer AnyDiagnostic c reported rose r → r.status ≡ status.Usage → IsUsage c reported
+may-usage None reported rose r h e = tt
+may-usage (Some c) reported rose r (contents, holds, inl h) e = by (bounds-or-other c)
+  where
+    no-usage : (P : Type 0) → is_reported r.status ≡ true → P
+    no-usage P s = absurd (let f : is_reported status.Usage ≡ true = subst (λ k. is_reported k ≡ true) e s in let g : false ≡ true = f in cc)
+
+    asks : (is : IsBounds c) → (is_reported r.status ≡ true) ⊎ ((r.status ≡ status.Usage) × AsksForNoAddress is.file is.from is.to is.inputs contents) → IsUsage (Some (Bounds is.file is.from is.to is.inputs)) reported
+    asks is (inl s) = no-usage _ s
+    asks is (inr u) = (contents, subst (λ d. Holds reported (names_read (Some d)) contents) is.is holds, u.1)
+
+    by : IsOther c ⊎ IsBounds c → IsUsage (Some c) reported
+    by (inl o) = no-usage _ (sound-command c o contents r h).reported
+    by (inr is) = subst (λ d. IsUsage (Some d) reported) (sym is.is) (asks is (bound-command c is contents r h).reported)
 may-usage (Some c) reported rose r (contents, holds, inr h) e = absurd (let s = (failed-says (names_read (Some c)) contents rose r h).1 in let g : status.Usage ≡ status.ReadFault = sym e ∙ s in cc)
 
 pub may-read : (c : Option Command) (reported : Option Holding) (rose : Type 0) (r : Response) → MayAnswer AnyDiagnostic c reported rose r → r.status ≡ status.ReadFault → rose
 may-read None reported rose r (contents, holds, inl h) e = absurd (let g : status.Usage ≡ status.ReadFault = sym (ap (λ (k : Response). k.status) h) ∙ e in cc)
 may-read None reported rose r (contents, holds, inr h) e = (failed-says [] contents rose r h).0
-may-read (Some c) reported rose r (contents, holds, inl h) e = absurd (let s = (sound-command c contents r h).reported in let f : is_reported status.ReadFault ≡ true = subst (λ k. is_reported k ≡ true) e s in let g : false ≡ true = f in cc)
+may-read (Some c) reported rose r (contents, holds, inl h) e = by (bounds-or-other c)
+  where
+    no-fault-read : is_reported r.status ≡ true → rose
+    no-fault-read s = absurd (let f : is_reported status.ReadFault ≡ true = subst (λ k. is_reported k ≡ true) e s in let g : false ≡ true = f in cc)
+
+    of-bound : (is : IsBounds c) → (is_reported r.status ≡ true) ⊎ ((r.status ≡ status.Usage) × AsksForNoAddress is.file is.from is.to is.inputs contents) → rose
+    of-bound is (inl s) = no-fault-read s
+    of-bound is (inr u) = absurd (let g : status.ReadFault ≡ status.Usage = sym e ∙ u.0 in cc)
+
+    by : IsOther c ⊎ IsBounds c → rose
+    by (inl o) = no-fault-read (sound-command c o contents r h).reported
+    by (inr is) = of-bound is (bound-command c is contents r h).reported
 may-read (Some c) reported rose r (contents, holds, inr h) e = (failed-says (names_read (Some c)) contents rose r h).0
 
 abbrev pub AreNamed : List (List ℕ) → Response → Type 0
@@ -514,7 +615,11 @@ AreNamed names r = (r.writes ≡ []) ⊎ (map (λ (w : Write). w.name) r.writes 
 pub may-named : (c : Option Command) (reported : Option Holding) (rose : Type 0) (r : Response) → MayAnswer AnyDiagnostic c reported rose r → AreNamed (names_written c) r
 may-named None reported rose r (contents, holds, inl h) = inl (ap (λ (k : Response). k.writes) h)
 may-named None reported rose r (contents, holds, inr h) = inl (failed-says [] contents rose r h).2
-may-named (Some c) reported rose r (contents, holds, inl h) = (sound-command c contents r h).named
+may-named (Some c) reported rose r (contents, holds, inl h) = by (bounds-or-other c)
+  where
+    by : IsOther c ⊎ IsBounds c → AreNamed (names_written (Some c)) r
+    by (inl o) = (sound-command c o contents r h).named
+    by (inr is) = inl (bound-command c is contents r h).none
 may-named (Some c) reported rose r (contents, holds, inr h) = inl (failed-says (names_read (Some c)) contents rose r h).2
 
 -- ---- what is written
@@ -841,6 +946,7 @@ accepted-check accepts may (Err e) r f ok h = absurd ok
 -- how a command ends that is accepted, where nothing outside fails
 abbrev pub IsDoneBy : Option Command → Status → Type 0
 IsDoneBy (Some (Checks trace rules inputs clock)) given = IsVerdictStatus given
+IsDoneBy (Some (Bounds file from to inputs)) given = IsVerdictStatus given
 IsDoneBy _ given = IsDone given
 
 pub done-command : (c : Option Command) (contents : List (Option (List ℕ))) (r : Response) → IsAccepted c contents → CommandAnswer AnyDiagnostic c contents r → IsDoneBy c r.status
@@ -894,6 +1000,9 @@ done-command (Some (Checks trace rules inputs clock)) contents r a h =
     let held = drop (length names) contents in
     accepted-check (λ texts. IsTraceHeld trace (λ printed. AreCheckable inputs clock printed texts) held) (λ texts. TraceThen trace (λ printed. CheckTexts trace rules inputs clock printed texts) held) (reads_of names contents) r
     (λ texts b k. done-trace IsVerdictStatus trace (λ printed. AreCheckable inputs clock printed texts) (λ printed. CheckTexts trace rules inputs clock printed texts) held r (λ printed c l. done-check trace rules inputs clock printed texts r c l) b k) a h
+done-command (Some (Bounds file from to inputs)) contents r a h =
+    accepted-check (λ texts. AreBoundable true from to inputs (take 1 texts) (drop 1 texts)) (Parted 1 (λ texts more. OneText (λ text. BoundAnswer file from to inputs text more) texts)) (reads_of (file ∷ names_of inputs) contents) r
+    (λ texts b k. bound-done file from to inputs (drop 1 texts) r (take 1 texts) b k) a h
 done-command (Some (Explains code)) contents r a h = done-reported r (explained code) h (done-explained code (said_of code) (meaning-is code) a)
 
 -- how it ends then is how the command may end, and so where memory ran out
@@ -928,6 +1037,7 @@ ends-by (Some (Debugs file script inputs lives)) given h = ends-other given h
 ends-by (Some (Generates number)) given h = ends-other given h
 ends-by (Some (Dumps trace inputs out clock)) given h = ends-other given h
 ends-by (Some (Checks trace rules inputs clock)) given h = ends-check given h
+ends-by (Some (Bounds file from to inputs)) given h = ends-check given h
 ends-by (Some (Explains code)) given h = ends-other given h
 
 -- a response without a fault outside is done, or because memory ran out

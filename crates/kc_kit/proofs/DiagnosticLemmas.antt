@@ -5,7 +5,7 @@ use Rattle.kc_obj_module.specs.Object.{Object}
 use Rattle.kc_link_place.specs.declared.ranges.Ranges.{Ranges}
 use Rattle.kc_kit_files.specs.Response.{Response}
 use Rattle.kc_kit_files.specs.Reads.{reads_of}
-use Rattle.kc_kit_words.specs.Commands.{Command, Helps, HelpsOn, ReportsVersion, Runs, Profiles, Assembles, Packs, Links, RunsHex, ProfilesHex, Lists, Debugs, Generates, Dumps, Checks, Explains, names_of}
+use Rattle.kc_kit_words.specs.Commands.{Command, Helps, HelpsOn, ReportsVersion, Runs, Profiles, Assembles, Packs, Links, RunsHex, ProfilesHex, Lists, Debugs, Generates, Dumps, Checks, Bounds, Explains, names_of}
 use Rattle.kc_kit_words.specs.Words.{placing_of}
 use Rattle.kc_kit_inputs.specs.declared.driving.Driving.{Driving}
 use Rattle.kc_kit_inputs.specs.Driving.{GivenFiles}
@@ -74,6 +74,7 @@ module _ (IsDiagnostic : DiagnosticRule) where
   command-any (Some (Generates number)) contents r h = reported-any made_names (made_given number) (placing_of []) (made_texts number) (λ lines. summary_of number) r h
   command-any (Some (Dumps trace inputs out clock)) contents r h = h
   command-any (Some (Checks trace rules inputs clock)) contents r h = h
+  command-any (Some (Bounds file from to inputs)) contents r h = h
   command-any (Some (Explains code)) contents r h = h
 
   pub may-any : (c : Option Command) (reported : Option Holding) (rose : Type 0) (r : Response) → MayAnswer IsDiagnostic c reported rose r → MayAnswer AnyDiagnostic c reported rose r

@@ -15,15 +15,15 @@ ghost use Rattle.kc_kit_words.specs.Usage.{usage_diagnostic};
 ghost use Rattle.kc_kit_words.specs.Words.{command_of};
 ghost use Rattle.kc_kit_words.specs.Asked.{asked, IsWithin};
 ghost use Rattle.kc_kit_words.specs.Commands.{names_read, names_written};
-ghost use Rattle.kc_kit_answer.specs.Answer.{MayAnswerBy, IsAccepted, EndsAccepted, StaysBut};
+ghost use Rattle.kc_kit_answer.specs.Answer.{MayAnswerBy, IsAccepted, IsUsage, EndsAccepted, StaysBut};
 ghost use Rattle.kc_kit_answer.specs.Jobs.{IsOf, IsReady};
 ghost use Rattle.kc_kit_answer.specs.Lines.{usage_line};
 
 use kc_base::{Files, Sink};
 use kc_kit_answer::{
-    Job, VERSION, explain_code, perform, prepare_assemble, prepare_check, prepare_debug,
-    prepare_dump, prepare_generate, prepare_hex, prepare_link, prepare_list, prepare_pack,
-    prepare_profile, prepare_profile_hex, prepare_run, report_help, report_help_on,
+    Job, VERSION, explain_code, perform, prepare_assemble, prepare_bound, prepare_check,
+    prepare_debug, prepare_dump, prepare_generate, prepare_hex, prepare_link, prepare_list,
+    prepare_pack, prepare_profile, prepare_profile_hex, prepare_run, report_help, report_help_on,
 };
 use kc_kit_files::{Ended, Refusal, Status, refuse, say};
 use kc_kit_streams::Streams;
@@ -58,7 +58,8 @@ pub fn kit<F: Streams, S: Sink, N: Sink>(
         → ¬ Rose (F.read_faults files.old) (F.read_faults files.new) → ¬ Rose (S.faults out.old.sink) (S.faults out.new.sink) → ¬ Rose (F.write_faults files.old) (F.write_faults files.new)
         → EndsAccepted (command_of (map string_bytes words.now)) result) }
 
-    ensures usage { result ≡ Status.Usage → command_of (map string_bytes words.now) ≡ None }
+    // So are the words answered that are no command, and those that ask for a bound from or to what is no address of the ROM.
+    ensures usage { result ≡ Status.Usage → IsUsage (command_of (map string_bytes words.now)) (F.held files.old) }
     ensures no_command { command_of (map string_bytes words.now) ≡ None → (result ≡ Status.Usage) ⊎ (result ≡ Status.WriteFault) }
     ensures read_fault { result ≡ Status.ReadFault → Rose (F.read_faults files.old) (F.read_faults files.new) }
     ensures write_fault { result ≡ Status.WriteFault → Rose (S.faults out.old.sink) (S.faults out.new.sink)
@@ -151,6 +152,7 @@ fn done<'a, F: Streams, S: Sink>(
         Command::Generate(generate) => generated(alloc, generate, files, out),
         Command::Dump(dump) => finish(alloc, prepare_dump(alloc, dump, files), files, out),
         Command::Check(check) => finish(alloc, prepare_check(alloc, check, files), files, out),
+        Command::Bound(bound) => finish(alloc, prepare_bound(alloc, bound, files), files, out),
         Command::Explain(explain) => explain_code(alloc, explain.code, out),
     }
 }

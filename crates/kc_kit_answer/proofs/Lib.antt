@@ -1,4 +1,5 @@
 pub mod AnswerSteps
+pub mod BoundLemmas
 pub mod CheckLemmas
 pub mod CoverLemmas
 pub mod CoverSources

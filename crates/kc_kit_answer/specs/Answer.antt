@@ -10,11 +10,13 @@ use Rattle.kc_kit_files.specs.declared.status.Status.{Status}
 use Rattle.kc_kit_files.specs.declared.status.Status.TheVariants as status
 use Rattle.kc_kit_files.specs.Response.{Response, says, Then}
 use Rattle.kc_kit_files.specs.Reads.{reads_of, Holds, FailedRead}
-use Rattle.kc_kit_words.specs.Commands.{Command, Helps, HelpsOn, ReportsVersion, Runs, Profiles, Assembles, Packs, Links, RunsHex, ProfilesHex, Lists, Debugs, Generates, Dumps, Checks, Explains, names_of, names_read}
+use Rattle.kc_kit_words.specs.declared.inputs.Role.{Role}
+use Rattle.kc_kit_words.specs.Commands.{Command, Helps, HelpsOn, ReportsVersion, Runs, Profiles, Assembles, Packs, Links, RunsHex, ProfilesHex, Lists, Debugs, Generates, Dumps, Checks, Bounds, Explains, names_of, names_read}
 use Rattle.kc_kit_inputs.specs.Driving.{given_for, driving_of}
 use Rattle.kc_kit_inputs.specs.Sources.{DiagnosticRule}
 use Rattle.kc_kit_answer.specs.Accepting.{Accepting, IsOneText, AreTwoTexts}
 use Rattle.kc_kit_answer.specs.Assemble.{AssembleAnswer, IsAssemblable}
+use Rattle.kc_kit_answer.specs.Bound.{BoundAnswer, AreBoundable}
 use Rattle.kc_kit_answer.specs.Check.{CheckFiles, CheckAccepted}
 use Rattle.kc_kit_answer.specs.Debug.{DebugAnswer, IsDebuggable}
 use Rattle.kc_kit_answer.specs.Dump.{DumpFiles, DumpAccepted}
@@ -68,6 +70,8 @@ CommandAnswer IsDiagnostic (Some (Debugs file script inputs lives)) contents res
 CommandAnswer IsDiagnostic (Some (Generates number)) contents response = GenerateAnswer IsDiagnostic number response
 CommandAnswer IsDiagnostic (Some (Dumps trace inputs out clock)) contents response = DumpFiles trace inputs out clock contents response
 CommandAnswer IsDiagnostic (Some (Checks trace rules inputs clock)) contents response = CheckFiles trace rules inputs clock contents response
+CommandAnswer IsDiagnostic (Some (Bounds file from to inputs)) contents response =
+    Then (reads_of (file ∷ names_of inputs) contents) (Parted 1 (λ texts more. OneText (λ text. BoundAnswer file from to inputs text more) texts)) response
 CommandAnswer IsDiagnostic (Some (Explains code)) contents response = response ≡ explained code
 
 -- What may be answered to a command, over what the files report that they hold: all files are read before any is checked. A read may
@@ -106,13 +110,29 @@ IsAccepted (Some (Debugs file script inputs lives)) contents =
 IsAccepted (Some (Generates number)) contents = IsGenerable number
 IsAccepted (Some (Dumps trace inputs out clock)) contents = DumpAccepted trace inputs contents
 IsAccepted (Some (Checks trace rules inputs clock)) contents = CheckAccepted trace rules inputs clock contents
+IsAccepted (Some (Bounds file from to inputs)) contents =
+    Accepting (λ texts. AreBoundable true from to inputs (take 1 texts) (drop 1 texts)) (reads_of (file ∷ names_of inputs) contents)
 IsAccepted (Some (Explains code)) contents = is_among code all_codes ≡ true
 
--- how a command may end whose files are accepted: a check says with its status whether a rule is broken, a run whether it has ended in
--- an undefined use
+-- how a command may end whose files are accepted: a check says with its status whether a rule is broken, a bound whether one is found, a
+-- run whether it has ended in an undefined use
 abbrev pub EndsAccepted : Option Command → Status → Type 0
 EndsAccepted (Some (Checks trace rules inputs clock)) given = (given ≡ status.Done) ⊎ ((given ≡ status.Broken) ⊎ (given ≡ status.NoMemory))
+EndsAccepted (Some (Bounds file from to inputs)) given = (given ≡ status.Done) ⊎ ((given ≡ status.Broken) ⊎ (given ≡ status.NoMemory))
 EndsAccepted _ given = (given ≡ status.Done) ⊎ ((given ≡ status.Undefined) ⊎ (given ≡ status.NoMemory))
+
+-- ---- what is answered as words are that are no command: those, and words that ask for a bound from or to a word that is no address of
+-- ---- the ROM, by what the files hold
+
+abbrev pub AsksForNoAddress : List ℕ → List ℕ → Option (List ℕ) → List (Role × List ℕ) → List (Option (List ℕ)) → Type 0
+AsksForNoAddress file from to inputs contents =
+    Accepting (λ texts. AreBoundable false from to inputs (take 1 texts) (drop 1 texts)) (reads_of (file ∷ names_of inputs) contents)
+
+abbrev pub IsUsage : Option Command → Option Holding → Type 0
+IsUsage None reported = Unit {0}
+IsUsage (Some (Bounds file from to inputs)) reported =
+    (contents : List (Option (List ℕ))) × Holds reported (file ∷ names_of inputs) contents × AsksForNoAddress file from to inputs contents
+IsUsage _ reported = ⊥
 
 -- ---- no name changes but those of files that are written
 

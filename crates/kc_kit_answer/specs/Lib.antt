@@ -1,6 +1,7 @@
 pub mod Accepting
 pub mod Answer
 pub mod Assemble
+pub mod Bound
 pub mod Check
 pub mod Checking
 pub mod Cover

@@ -6,7 +6,7 @@ ghost use Rattle.kc_kit_answer.specs.Help.{help_rows};
 pub type Row = (&'static str, &'static str);
 
 /// The text of `--help` in parts, each with the command that it is on; the first and the last are on none.
-pub static HELP: [Row; 15] = [
+pub static HELP: [Row; 16] = [
     (
         "",
         "kc96 assembles, links and runs programs of the 80C196KC.
@@ -84,6 +84,15 @@ pub static HELP: [Row; 15] = [
 ",
     ),
     (
+        "bound",
+        "  kc96 bound NAME FROM            bound the states of the routine at FROM in the hex file NAME, for every input
+       [--to A]                   end the routine at A too, beside its return
+       [--notes FILE]             read how often loops turn, where jumps lead, how many words blocks have
+       [--map FILE]               take names of addresses from a linker's map
+       [--lines FILE]             take lines of sources from a line map
+",
+    ),
+    (
         "gen",
         "  kc96 gen N                      generate a program from the number N, run it, count its events
 ",
@@ -107,7 +116,8 @@ pub static HELP: [Row; 15] = [
     (
         "",
         "status: 0 done, 1 wrong words, 2 file missing or code unknown, 3 fault in a source, 4 fault in another file,
-        5 rule of linking broken, 6 undefined use, 7 read failed, 8 write failed, 9 out of memory, 10 timing rule broken
+        5 rule of linking broken, 6 undefined use, 7 read failed, 8 write failed, 9 out of memory, 10 timing rule broken or
+        no bound found
 ",
     ),
 ];

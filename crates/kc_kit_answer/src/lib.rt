@@ -5,6 +5,7 @@
 
 mod assemble;
 mod board;
+mod bound;
 mod check;
 mod cover;
 mod debug;
@@ -25,6 +26,7 @@ mod run_hex;
 mod writing;
 
 pub use assemble::prepare_assemble;
+pub use bound::prepare_bound;
 pub use check::prepare_check;
 pub use debug::prepare_debug;
 pub use dump::prepare_dump;

@@ -1,5 +1,6 @@
 -- How a command has ended, what it has done, and what is said of it.
-use Rattle.std.proofs.Common.{◌≡◌, ◌≢◌, ◌⊎◌, inl, inr, ℕ, List, [], ◌∷◌, sym, subst}
+use Rattle.std.proofs.Common.{◌≡◌, ◌⊎◌, inl, inr, ℕ, List, [], ◌∷◌, ◌++◌, ◌∙◌, ap, sym, subst}
+use Rattle.std.proofs.lemmas.List.{append-nil}
 use Rattle.kc_trace.specs.Out.{Out, Puts}
 use Rattle.kc_kit_files.specs.declared.status.Status.{Status}
 use Rattle.kc_kit_files.specs.declared.status.Status.TheVariants as status
@@ -116,7 +117,7 @@ pub ends-by : (may : Response → Type 0) (old : Kept) (before : Shown) (ended :
 ends-by may old before ended given new now e f none diagnostic h =
     subst (λ s. EndsBy may old before s ended.said new now) (sym e) (subst (λ w. EndsBy may old before given w new now) (sym f) (Ends-printed may old before given said.Nothing new now tt none diagnostic h))
 
--- ---- the diagnostics of a command that has ended so, which is no refusal of its words
+-- ---- the diagnostics of a command that has ended so: nothing is wrong in its words
 
 noted-unwritten : (usage : List ℕ) (may : Response → Type 0) (old : Kept) (before : Shown) (diagnostics : Out) (what : Said) (new : Kept) (now : Shown) (noted : Out) → Unwritten may old before what new now → Puts diagnostics (unwritten what) noted →
     Noted usage may old before diagnostics status.WriteFault new now noted
@@ -129,11 +130,12 @@ noted-given : (may : Response → Type 0) (given : Status) (old : Kept) (before 
 noted-given may given old before diagnostics what new now noted h p =
     given-widen (WithDiagnostic may what) (λ response. may response × Puts diagnostics response.diagnostic noted) given old before new now (λ r k. (k.0, subst (λ n. Puts diagnostics n noted) (sym k.1) p)) h
 
-pub Ends-noted : (usage : List ℕ) (may : Response → Type 0) (old : Kept) (before : Shown) (diagnostics : Out) (given : Status) (what : Said) (new : Kept) (now : Shown) (noted : Out) → ((r : Response) → may r → r.status ≢ status.Usage) →
+pub Ends-noted : (usage : List ℕ) (may : Response → Type 0) (old : Kept) (before : Shown) (diagnostics : Out) (given : Status) (what : Said) (new : Kept) (now : Shown) (noted : Out) → usage ≡ [] →
     EndsBy may old before given what new now → Puts diagnostics (diagnostic_by given what) noted → Noted usage may old before diagnostics given new now noted
 Ends-noted usage may old before diagnostics status.NoMemory what new now noted f h p = p
 Ends-noted usage may old before diagnostics status.WriteFault what new now noted f h p = noted-unwritten usage may old before diagnostics what new now noted h p
-Ends-noted usage may old before diagnostics status.Usage what new now noted f h p = absurd (f h.response h.is_answer.0 (sym h.status))
+Ends-noted usage may old before diagnostics status.Usage what new now noted f h p =
+    subst (λ u. IsGiven (λ response. may response × Puts diagnostics (u ++ response.diagnostic) noted) status.Usage old before new now) (sym f) (noted-given may status.Usage old before diagnostics what new now noted h p)
 Ends-noted usage may old before diagnostics status.Done what new now noted f h p = noted-given may status.Done old before diagnostics what new now noted h p
 Ends-noted usage may old before diagnostics status.Missing what new now noted f h p = noted-given may status.Missing old before diagnostics what new now noted h p
 Ends-noted usage may old before diagnostics status.Source what new now noted f h p = noted-given may status.Source old before diagnostics what new now noted h p
@@ -145,12 +147,14 @@ Ends-noted usage may old before diagnostics status.Broken what new now noted f h
 
 -- ---- the diagnostics of words that are no command: of a response that says nothing else
 
-pub noted-usage : (usage : List ℕ) (may wide : Response → Type 0) (old : Kept) (before : Shown) (diagnostics : Out) (given : Status) (new : Kept) (now : Shown) (noted : Out) → ((r : Response) → may r → wide r) → ((r : Response) → may r → r.writes ≡ []) →
+pub noted-usage : (usage : List ℕ) (may wide : Response → Type 0) (old : Kept) (before : Shown) (diagnostics : Out) (given : Status) (new : Kept) (now : Shown) (noted : Out) → ((r : Response) → may r → wide r) → ((r : Response) → may r → r.writes ≡ []) → ((r : Response) → may r → r.diagnostic ≡ []) →
     (given ≡ status.Usage) ⊎ (given ≡ status.WriteFault) → Responses may old before given new now → (given ≡ status.Usage → Puts diagnostics usage noted) → (given ≡ status.WriteFault → Puts diagnostics output_diagnostic noted) →
     Noted usage wide old before diagnostics given new now noted
-noted-usage usage may wide old before diagnostics given new now noted f none (inl e) h p q =
+noted-usage usage may wide old before diagnostics given new now noted f none silent (inl e) h p q =
     let reported : Responses may old before status.Usage new now = subst (λ s. Responses may old before s new now) e h in
-    subst (λ s. Noted usage wide old before diagnostics s new now noted) (sym e) (given-widen may wide status.Usage old before new now f reported, p e)
-noted-usage usage may wide old before diagnostics given new now noted f none (inr e) h p q =
+    subst (λ s. Noted usage wide old before diagnostics s new now noted) (sym e)
+    (given-widen may (λ response. wide response × Puts diagnostics (usage ++ response.diagnostic) noted) status.Usage old before new now
+    (λ r k. (f r k, subst (λ u. Puts diagnostics u noted) (sym (ap (λ l. usage ++ l) (silent r k) ∙ append-nil usage)) (p e))) reported)
+noted-usage usage may wide old before diagnostics given new now noted f none silent (inr e) h p q =
     let reported : Responses may old before status.WriteFault new now = subst (λ s. Responses may old before s new now) e h in
     subst (λ s. Noted usage wide old before diagnostics s new now noted) (sym e) (inl (sink-widen may wide old before new now f (only-sink may old before new now none reported), q e))

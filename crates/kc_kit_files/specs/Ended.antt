@@ -1,5 +1,5 @@
 -- How a command has ended, and what is said of it in words (this kit's own).
-use Rattle.std.specs.Prelude.{◌≡◌, ◌⊎◌, ℕ, List, [], Option}
+use Rattle.std.specs.Prelude.{◌≡◌, ◌⊎◌, ℕ, List, [], ◌++◌, Option}
 use Rattle.kc_base.specs.Held.{Holding}
 use Rattle.kc_trace.specs.Out.{Out, Puts}
 use Rattle.kc_kit_files.specs.declared.status.Status.{Status}
@@ -54,12 +54,13 @@ Ends held writes written faults may files sink ended files_after sink_after =
     EndsBy may (kept (held files) (writes files)) (shown_by written faults sink) ended.status ended.said (kept (held files_after) (writes files_after)) (shown_by written faults sink_after)
 
 -- ---- diagnostics: a sink of their own. What is put there with a status is the diagnostic of the response that is given; of a write that has failed,
--- ---- what could not be written; of that memory ran out, that; and of words that are no command, what is wrong in them.
+-- ---- what could not be written; of that memory ran out, that; and of words that are no command, what is wrong in them, before the
+-- ---- diagnostic of their response, which is empty.
 
 abbrev pub Noted : List ℕ → (Response → Type 0) → Kept → Shown → Out → Status → Kept → Shown → Out → Type 0
 Noted usage may old before diagnostics status.NoMemory new now noted = Puts diagnostics memory_diagnostic noted
 Noted usage may old before diagnostics status.WriteFault new now noted =
     (SinkFailed may old before new now × Puts diagnostics output_diagnostic noted)
     ⊎ ((name : List ℕ) × WriteFailedAt name may old before new now × Puts diagnostics (write_diagnostic name) noted)
-Noted usage may old before diagnostics status.Usage new now noted = IsGiven may status.Usage old before new now × Puts diagnostics usage noted
+Noted usage may old before diagnostics status.Usage new now noted = IsGiven (λ response. may response × Puts diagnostics (usage ++ response.diagnostic) noted) status.Usage old before new now
 Noted usage may old before diagnostics given new now noted = IsGiven (λ response. may response × Puts diagnostics response.diagnostic noted) given old before new now

@@ -8,6 +8,8 @@ is_role role.Stimuli role.Stimuli = true
 is_role role.Analog role.Analog = true
 is_role role.Library role.Library = true
 is_role role.Lines role.Lines = true
+is_role role.Map role.Map = true
+is_role role.Notes role.Notes = true
 is_role _ _ = false
 
 -- the name and the text of the first of these files that is there for a role

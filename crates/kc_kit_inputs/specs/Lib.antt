@@ -1,4 +1,5 @@
 pub mod Analog
+pub mod Annotations
 pub mod Driving
 pub mod FaultDiagnostics
 pub mod Hex

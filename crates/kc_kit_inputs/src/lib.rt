@@ -1,9 +1,10 @@
 //! What named files say to a command, or the refusal of their first fault: sources, objects, libraries, hex files, stimuli,
-//! analogue files, scripts of the debugger, traces, rules. It stands on `kc_kit_files` and on the reader of each format. Example: a
+//! analogue files, scripts of the debugger, traces, rules, maps and notes. It stands on `kc_kit_files` and on the reader of each format. Example: a
 //! source with a fault in line 3 is the refusal `source NAME:3: E12` of status 3.
 #![tactic(auto)]
 
 mod analog;
+mod annotations;
 mod driving;
 mod hex_image;
 mod input_lines;
@@ -15,6 +16,9 @@ mod scripts;
 mod sources;
 mod stimuli;
 
+pub use annotations::{
+    AnnotationFiles, Annotations, address, annotation_files, annotations_in,
+};
 pub use driving::{Driving, Given, driving_in, given_for};
 pub use hex_image::image_of;
 pub use library::{read_library, take_members};

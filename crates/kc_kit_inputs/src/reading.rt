@@ -52,6 +52,8 @@ fn is_role(given: Role, wanted: Role) -> bool
             | (Role::Analog, Role::Analog)
             | (Role::Library, Role::Library)
             | (Role::Lines, Role::Lines)
+            | (Role::Map, Role::Map)
+            | (Role::Notes, Role::Notes)
     )
 }
 

@@ -30,7 +30,7 @@ use Rattle.kc_kit_files.specs.Reads.{reads_of, text_of}
 use Rattle.kc_kit_words.specs.declared.inputs.Role.{Role}
 use Rattle.kc_kit_words.specs.declared.inputs.Role.TheVariants as role
 use Rattle.kc_kit_words.specs.declared.extent.Extent.{Extent}
-use Rattle.kc_kit_words.specs.Commands.{Behind, Beside, Command, Helps, HelpsOn, ReportsVersion, Runs, Profiles, Assembles, Packs, Links, RunsHex, ProfilesHex, Lists, Debugs, Generates, Dumps, Checks, Explains, names_of, names_whole}
+use Rattle.kc_kit_words.specs.Commands.{Behind, Beside, Command, Helps, HelpsOn, ReportsVersion, Runs, Profiles, Assembles, Packs, Links, RunsHex, ProfilesHex, Lists, Debugs, Generates, Dumps, Checks, Bounds, Explains, names_of, names_whole}
 use Rattle.kc_kit_words.specs.Words.{placing_of}
 use Rattle.kc_kit_inputs.specs.Hex.{hex_of}
 use Rattle.kc_kit_inputs.specs.declared.driving.Driving.{Driving}
@@ -66,7 +66,7 @@ use Rattle.kc_kit_running.specs.Sources.{FileLines, lines_of_files, no_lines}
 use Rattle.kc_kit_answer.specs.Profile.{AreLines, DrivenWithLines, LinkedWithLines, LinesReported, ProfileAnswer, ProfileHexAnswer}
 use Rattle.kc_kit_answer.specs.Run.{LinkedReported, Driven, RunReported, RunAnswer}
 use Rattle.kc_kit_running.specs.Lives.{board_response}
-use Rattle.kc_kit_laws.specs.OneAnswer.{silent, OneAnswer, OneDiagnostic}
+use Rattle.kc_kit_laws.specs.OneAnswer.{silent, HasOneAnswer, OneAnswer, OneDiagnostic}
 use Rattle.kc_kit_laws.proofs.KnownLemmas.{AgreesOnKnown, profile_agrees, same_known}
 
 -- ---- steps
@@ -340,49 +340,50 @@ module _
   assembled file out list (t ∷ []) r s h k = source_once file t (WritesObject out list t) (one_object laws out list t) r s h k
   assembled file out list (t ∷ u ∷ texts) r s h k = absurd h
 
-  answers : (command : Option Command) (contents : List (Option (List ℕ))) → AreOne (CommandAnswer IsDiagnostic command contents)
-  answers None contents r s h k = equal r s (h ∙ sym k)
-  answers (Some Helps) contents r s h k = equal r s (h ∙ sym k)
-  answers (Some (HelpsOn verb)) contents r s h k = equal r s (h ∙ sym k)
-  answers (Some ReportsVersion) contents r s h k = equal r s (h ∙ sym k)
-  answers (Some (Runs files inputs extent ranges)) contents r s h k =
+  answers : (command : Option Command) (contents : List (Option (List ℕ))) → HasOneAnswer command → AreOne (CommandAnswer IsDiagnostic command contents)
+  answers None contents one r s h k = equal r s (h ∙ sym k)
+  answers (Some Helps) contents one r s h k = equal r s (h ∙ sym k)
+  answers (Some (HelpsOn verb)) contents one r s h k = equal r s (h ∙ sym k)
+  answers (Some ReportsVersion) contents one r s h k = equal r s (h ∙ sym k)
+  answers (Some (Runs files inputs extent ranges)) contents one r s h k =
       then_one (reads_of (files ++ names_of inputs) contents) (Parted (length files) (RunAnswer IsDiagnostic files inputs extent ranges))
       (λ texts. reported_sources files (given_for inputs (drop (length files) texts)) ranges (take (length files) texts) (λ lines. board_response lines extent)) r s h k
-  answers (Some (Profiles files inputs extent ranges behind)) contents r s h k =
+  answers (Some (Profiles files inputs extent ranges behind)) contents one r s h k =
       then_one (reads_of (files ++ names_of inputs) contents) (Parted (length files) (ProfileAnswer IsDiagnostic files inputs extent ranges behind))
       (λ texts. reported_lines files (given_for inputs (drop (length files) texts)) ranges (take (length files) texts) extent behind) r s h k
-  answers (Some (ProfilesHex file inputs extent out)) contents r s h k = equal r s
+  answers (Some (ProfilesHex file inputs extent out)) contents one r s h k = equal r s
       (one_then (reads_of (file ∷ names_of inputs) contents) (Parted 1 (λ texts more. OneText (λ text. ProfileHexAnswer file inputs extent out text more) texts))
       (λ texts. one_text (λ text. ProfileHexAnswer file inputs extent out text (drop 1 texts))
       (λ text. one_hex laws file (given_for inputs (drop 1 texts)) text (profile_response extent (record { profile = Some out; cover = None }) none_known)) (take 1 texts)) r s h k)
-  answers (Some (Assembles file out list)) contents r s h k = then_one (reads_of (file ∷ []) contents) (OneText (AssembleAnswer IsDiagnostic file out list)) (assembled file out list) r s h k
-  answers (Some (Packs files out)) contents r s h k = equal r s
+  answers (Some (Assembles file out list)) contents one r s h k = then_one (reads_of (file ∷ []) contents) (OneText (AssembleAnswer IsDiagnostic file out list)) (assembled file out list) r s h k
+  answers (Some (Packs files out)) contents one r s h k = equal r s
       (one_then (reads_of files contents) (PackAnswer files out)
       (λ texts. one_then (modules_of object_of files texts) (λ ms response. response ≡ packed files out ms (doubled ms)) (λ ms. one_reported (packed files out ms (doubled ms)))) r s h k)
-  answers (Some (Links files inputs out beside ranges)) contents r s h k = equal r s
+  answers (Some (Links files inputs out beside ranges)) contents one r s h k = equal r s
       (one_then (reads_of (files ++ names_of inputs) contents) (Parted (length files) (LinkAnswer files inputs out beside ranges))
       (λ texts. one_link laws files inputs out beside ranges (take (length files) texts) (drop (length files) texts)) r s h k)
-  answers (Some (RunsHex file inputs extent)) contents r s h k = equal r s
+  answers (Some (RunsHex file inputs extent)) contents one r s h k = equal r s
       (one_then (reads_of (file ∷ names_of inputs) contents) (Parted 1 (λ texts more. OneText (λ text. RunHexAnswer file inputs extent text more) texts))
       (λ texts. one_text (λ text. RunHexAnswer file inputs extent text (drop 1 texts))
       (λ text. one_hex laws file (given_for inputs (drop 1 texts)) text (board_response no_lines extent)) (take 1 texts)) r s h k)
-  answers (Some (Lists file first last)) contents r s h k = equal r s
+  answers (Some (Lists file first last)) contents one r s h k = equal r s
       (one_then (reads_of (file ∷ []) contents) (OneText (ListAnswer file first last))
       (one_text (ListAnswer file first last) (λ text. one_then (hex_of file text) (ListingOf first last) (λ image. one_reported (says status.Done (listing image first last))))) r s h k)
-  answers (Some (Debugs file script inputs lives)) contents r s h k = equal r s
+  answers (Some (Debugs file script inputs lives)) contents one r s h k = equal r s
       (one_then (reads_of (file ∷ script ∷ names_of inputs) contents) (Parted 2 (λ texts more. TwoTexts (λ text commands. DebugAnswer file script inputs lives text commands more) texts))
       (λ texts. one_two (λ text commands. DebugAnswer file script inputs lives text commands (drop 2 texts))
       (λ text commands. one_hex laws file (given_for inputs (drop 2 texts)) text (debug_response (script, commands) (input_for role.Lines inputs (drop 2 texts)) lives)) (take 2 texts)) r s h k)
-  answers (Some (Generates number)) contents r s h k = reported_sources made_names (made_given number) (placing_of []) (made_texts number) (λ lines. summary_of number) r s h k
-  answers (Some (Dumps trace inputs out clock)) contents r s h k =
+  answers (Some (Generates number)) contents one r s h k = reported_sources made_names (made_given number) (placing_of []) (made_texts number) (λ lines. summary_of number) r s h k
+  answers (Some (Dumps trace inputs out clock)) contents one r s h k =
       let held = drop (length (names_of inputs)) contents in
       equal r s (one_then (reads_of (names_of inputs) contents) (λ texts. TraceThen trace (λ printed. DumpAnswer trace inputs out clock printed texts) held)
       (λ texts. one_trace_then trace (λ printed. DumpAnswer trace inputs out clock printed texts) (λ printed. one_dump trace inputs out clock printed texts) held) r s h k)
-  answers (Some (Checks trace rules inputs clock)) contents r s h k =
+  answers (Some (Checks trace rules inputs clock)) contents one r s h k =
       let held = drop (length (names_whole rules inputs)) contents in
       equal r s (one_then (reads_of (names_whole rules inputs) contents) (λ texts. TraceThen trace (λ printed. CheckTexts trace rules inputs clock printed texts) held)
       (λ texts. one_trace_then trace (λ printed. CheckTexts trace rules inputs clock printed texts) (λ printed. one_check_texts trace rules inputs clock printed texts) held) r s h k)
-  answers (Some (Explains code)) contents r s h k = equal r s (h ∙ sym k)
+  answers (Some (Bounds file from to inputs)) contents one r s h k = absurd one
+  answers (Some (Explains code)) contents one r s h k = equal r s (h ∙ sym k)
 
 -- ---- the whole
 

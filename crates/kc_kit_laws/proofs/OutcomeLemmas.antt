@@ -86,7 +86,7 @@ given_of : (command : Option Command) (held : Holding) (given : List ℕ) (s : S
 given_of command held given s files sink h = given-of (MayAnswer AnyDiagnostic command (Some held) (Rose h.reads.0 h.reads.1)) s h.old h.before files sink h.write h.memory h.answered
 
 pub one_outcome : OneAnswer → OneOutcome
-one_outcome law command held given s t files others sink other h k = record {
+one_outcome law command held given s t files others sink other one h k = record {
   status = a.status ∙ (ap (λ (r : Response). r.status) same ∙ sym b.status);
   written = grew h.before.written given a.response.text sink.written h.shows a.text
       ∙ (ap (λ (r : Response). Some (given ++ r.text)) same ∙ sym (grew k.before.written given b.response.text other.written k.shows b.text));
@@ -102,6 +102,6 @@ one_outcome law command held given s t files others sink other h k = record {
 
     same : silent a.response ≡ silent b.response
     same =
-        law command (map held (names_read command)) a.response b.response
+        law command (map held (names_read command)) a.response b.response one
         (answered command held (Rose h.reads.0 h.reads.1) a.response h.well_read a.is_answer)
         (answered command held (Rose k.reads.0 k.reads.1) b.response k.well_read b.is_answer)

@@ -23,7 +23,7 @@ use Rattle.kc_kit_files.specs.Response.{Response, Write, write, reports, joined,
 use Rattle.kc_kit_files.specs.Writes.{first_long, unless_long, writing_readable, AreReadable}
 use Rattle.kc_kit_files.proofs.LongLemmas.{readable-of}
 use Rattle.kc_kit_words.specs.declared.inputs.Role.TheVariants as role
-use Rattle.kc_kit_words.specs.Commands.{Beside, Helps, HelpsOn, ReportsVersion, Runs, Profiles, Assembles, Packs, Links, RunsHex, ProfilesHex, Lists, Debugs, Generates, Dumps, Checks, Explains, names_of}
+use Rattle.kc_kit_words.specs.Commands.{Beside, Helps, HelpsOn, ReportsVersion, Runs, Profiles, Assembles, Packs, Links, RunsHex, ProfilesHex, Lists, Debugs, Generates, Dumps, Checks, Bounds, Explains, names_of}
 use Rattle.kc_kit_inputs.specs.Inputs.{input_for}
 use Rattle.kc_kit_inputs.specs.Library as libraries
 use Rattle.kc_kit_inputs.specs.Library.{by_library, library_of, fault_response}
@@ -205,4 +205,5 @@ written_is_readable (Some (Debugs file script inputs lives)) contents r h = of_n
 written_is_readable (Some (Generates number)) contents r h = of_none r
 written_is_readable (Some (Dumps trace inputs out clock)) contents r h = of_none r
 written_is_readable (Some (Checks trace rules inputs clock)) contents r h = of_none r
+written_is_readable (Some (Bounds file from to inputs)) contents r h = of_none r
 written_is_readable (Some (Explains code)) contents r h = of_none r

@@ -7,7 +7,7 @@ use Rattle.kc_kit_files.specs.declared.status.Status.{Status}
 use Rattle.kc_kit_files.specs.declared.status.Status.TheVariants.{NoMemory, WriteFault}
 use Rattle.kc_kit_files.specs.Response.{Response}
 use Rattle.kc_kit_files.specs.Outside.{Kept, Shown, Responses}
-use Rattle.kc_kit_words.specs.Commands.{Command}
+use Rattle.kc_kit_words.specs.Commands.{Command, Bounds}
 use Rattle.kc_kit_inputs.specs.FaultDiagnostics.{IsFaultDiagnostic}
 use Rattle.kc_kit_inputs.specs.Sources.{AnyDiagnostic}
 use Rattle.kc_kit_answer.specs.Answer.{CommandAnswer, MayAnswer}
@@ -16,17 +16,22 @@ use Rattle.kc_kit_answer.specs.Answer.{CommandAnswer, MayAnswer}
 abbrev pub silent : Response → Response
 silent response = record { status = response.status; text = response.text; pauses = response.pauses; writes = response.writes; diagnostic = [] }
 
--- two responses to a command over the same contents of the files that it reads do the same, whatever is said of a fault of a source
+-- `bound` is left out: it has an answer for each certificate that may be found, and lines of refusals of which nothing is claimed
+abbrev pub HasOneAnswer : Option Command → Type 0
+HasOneAnswer (Some (Bounds file from to inputs)) = ⊥
+HasOneAnswer _ = Unit {0}
+
+-- two responses to another command over the same contents of the files that it reads do the same, whatever is said of a fault of a source
 abbrev pub OneAnswer : Type 0
 OneAnswer =
     (command : Option Command) (contents : List (Option (List ℕ))) (response other : Response)
-    → CommandAnswer AnyDiagnostic command contents response → CommandAnswer AnyDiagnostic command contents other → silent response ≡ silent other
+    → HasOneAnswer command → CommandAnswer AnyDiagnostic command contents response → CommandAnswer AnyDiagnostic command contents other → silent response ≡ silent other
 
 -- and with the diagnostics of such faults they are the same
 abbrev pub OneDiagnostic : Type 0
 OneDiagnostic =
     (command : Option Command) (contents : List (Option (List ℕ))) (response other : Response)
-    → CommandAnswer IsFaultDiagnostic command contents response → CommandAnswer IsFaultDiagnostic command contents other → response ≡ other
+    → HasOneAnswer command → CommandAnswer IsFaultDiagnostic command contents response → CommandAnswer IsFaultDiagnostic command contents other → response ≡ other
 
 -- ---- calls
 
@@ -54,8 +59,8 @@ pub record AreSame (s : Status) (files : Kept) (sink : Shown) (t : Status) (othe
   pub written : sink.written ≡ other.written
   pub held : HoldSame files.held others.held
 
--- two calls with a command, over files that held the same and sinks that were given the same, leave the same
+-- two calls with such a command, over files that held the same and sinks that were given the same, leave the same
 abbrev pub OneOutcome : Type 0
 OneOutcome =
     (command : Option Command) (held : Holding) (given : List ℕ) (s t : Status) (files others : Kept) (sink other : Shown)
-    → IsCall command held given s files sink → IsCall command held given t others other → AreSame s files sink t others other
+    → HasOneAnswer command → IsCall command held given s files sink → IsCall command held given t others other → AreSame s files sink t others other

@@ -31,7 +31,8 @@ pub fn runs_are_alike()
     written_is_read();
 }
 
-/// A command has one answer over what the files hold: whatever may be replied is the same status, text and files.
+/// A command has one answer over what the files hold: whatever may be replied is the same status, text and files. `bound` is left
+/// out, which has one for each certificate.
 pub fn one_answer()
     ensures { OneAnswer }
 {

@@ -174,6 +174,14 @@ rule_files : IsExplained (codes "BADRULE")
 unfolding all_codes instruction_codes
 rule_files = refl
 
+names : IsExplained (codes "BADNAMES")
+unfolding all_codes instruction_codes
+names = refl
+
+notes : IsExplained (codes "BADNOTE")
+unfolding all_codes instruction_codes
+notes = refl
+
 files : IsExplained (codes "LONG")
 unfolding all_codes instruction_codes
 files = refl
@@ -195,6 +203,8 @@ faults_are_explained = record {
   maps = maps;
   traces = traces;
   rule_files = rule_files;
+  names = names;
+  notes = notes;
   files = files;
   long = long;
 }

@@ -72,7 +72,7 @@ abbrev pub input_codes : List (List ℕ)
 input_codes =
     lettered_to (codes "O") 6 ++ lettered_to (codes "B") 6 ++ lettered_to (codes "H") 6
     ++ codes "LONG" ∷ codes "BADLINE" ∷ codes "WIRED" ∷ codes "FALLING" ∷ codes "TWICE" ∷ codes "TOOMANY"
-    ∷ codes "BADANALOG" ∷ codes "BADCOMMAND" ∷ codes "BADMAP" ∷ codes "BADTRACE" ∷ codes "BADRULE" ∷ []
+    ∷ codes "BADANALOG" ∷ codes "BADCOMMAND" ∷ codes "BADMAP" ∷ codes "BADTRACE" ∷ codes "BADRULE" ∷ codes "BADNAMES" ∷ codes "BADNOTE" ∷ []
 
 abbrev pub rule_codes : List (List ℕ)
 rule_codes = codes "unresolved" ∷ codes "duplicate" ∷ codes "overlap" ∷ codes "capacity" ∷ codes "range" ∷ []

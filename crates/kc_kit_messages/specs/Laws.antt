@@ -39,6 +39,8 @@ pub record FaultsAreExplained : Type 0 where
   pub maps : IsExplained (codes "BADMAP")
   pub traces : IsExplained (codes "BADTRACE")
   pub rule_files : IsExplained (codes "BADRULE")
+  pub names : IsExplained (codes "BADNAMES")
+  pub notes : IsExplained (codes "BADNOTE")
   pub files : IsExplained (codes "LONG")
   pub long : sentence_of (codes "LONG") ≡ too_long
 

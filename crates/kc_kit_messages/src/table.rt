@@ -51,7 +51,7 @@ static SOURCES: [Row; 24] = [
     row!("E24", "a generic branch goes to what is no label, no external and not `$`"; " BE 5" => "L: NOP\n BE L"),
 ];
 
-static INPUTS: [Row; 29] = [
+static INPUTS: [Row; 31] = [
     row!(
         "O01",
         "an object has a record of a type that does not come at this place"
@@ -105,6 +105,8 @@ static INPUTS: [Row; 29] = [
     row!("BADMAP", "a line of a line map is no address, module and line, or its address is not above the one before"; "20aA MAIN 7" => "20AA MAIN 7"),
     row!("BADTRACE", "a line is none that a board prints there, or the line X at the end is lacking"; "X 4 stopped" => "X 4 spent"),
     row!("BADRULE", "a line of a rules file is no mark and no rule"; "never P10" => "never P10 rise"),
+    row!("BADNAMES", "a line of a linker's map is none of public, number, piece, stack and free, or has no value and names behind the first two"; "public 94 LOOP MAIN" => "public 2094 LOOP MAIN"),
+    row!("BADNOTE", "a line of a notes file is no note, names an address that is unknown or not in 2000H-5FFFH, says again what a line before has said of its address, or is one too many"; "loop 2080 03" => "loop 2080 3"),
 ];
 
 static RUNS: [Row; 48] = [
@@ -179,7 +181,7 @@ static RUNS: [Row; 48] = [
         "status0",
         "done; a run has ended as spent, in powerdown or by a reset"
     ),
-    row!("status1", "the words are no command"; "kc96 run main.a96" => "kc96 run main.a96 --states 1000"),
+    row!("status1", "the words are no command, or name an address that is not known"; "kc96 run main.a96" => "kc96 run main.a96 --states 1000"),
     row!(
         "status2",
         "a file, or a code that is to be explained, is not there"
@@ -187,14 +189,14 @@ static RUNS: [Row; 48] = [
     row!("status3", "a source has a fault"),
     row!(
         "status4",
-        "an object, a library, a hex, stimulus or analogue file, a script, a line map, a trace or a rules file leaves its form, or a file is too long"
+        "an object, a library, a hex, stimulus or analogue file, a script, a map, a trace, a rules or notes file leaves its form, or a file is too long"
     ),
     row!("status5", "a rule of linking is broken"),
     row!("status6", "the run has ended in an undefined use"),
     row!("status7", "a file could not be read"),
     row!("status8", "the output or a file could not be written"),
     row!("status9", "memory has run out"),
-    row!("status10", "a rule is broken"),
+    row!("status10", "a rule is broken, or no bound is found"),
 ];
 
 /// The faults of sources.

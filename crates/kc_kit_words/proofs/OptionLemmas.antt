@@ -7,7 +7,7 @@ use Rattle.std.proofs.lemmas.List.{take_all, take-map, drop-map}
 use Rattle.kc_kit_words.specs.declared.inputs.Role.{Role}
 use Rattle.kc_kit_words.specs.Commands.{names_of}
 use Rattle.kc_kit_words.specs.Options.{takes, value_of, are_options, role_of, with_input, inputs_of}
-use Rattle.kc_kit_words.specs.Words.{command_with, plain_command_of, count_files, hex_by, list_by, debug_by, check_by}
+use Rattle.kc_kit_words.specs.Words.{command_with, plain_command_of, count_files, hex_by, list_by, debug_by, check_by, bound_by}
 
 -- the words behind the first two
 abbrev pub behind : List (String Global) → List (List ℕ)
@@ -141,6 +141,12 @@ check_by-other [] verb options two = refl
 check_by-other (a ∷ []) verb options two = refl
 check_by-other (a ∷ b ∷ []) verb options two = absurd (two refl)
 check_by-other (a ∷ b ∷ c ∷ rest) verb options two = refl
+
+pub bound_by-other : (files : List (List ℕ)) (verb : List ℕ) (options : List (List ℕ)) → (length files ≡ 2 → ⊥) → bound_by files verb options ≡ None
+bound_by-other [] verb options two = refl
+bound_by-other (a ∷ []) verb options two = refl
+bound_by-other (a ∷ b ∷ []) verb options two = absurd (two refl)
+bound_by-other (a ∷ b ∷ c ∷ rest) verb options two = refl
 
 pub list_by-other : (words : List (List ℕ)) → (length words ≡ 2 → ⊥) → list_by words ≡ None
 list_by-other [] two = refl

@@ -132,7 +132,7 @@ commands-alike : (verb : List ℕ) (files a b : List (List ℕ)) → ((x : List 
 commands-alike verb [] a b values inputs = refl
 commands-alike verb (f ∷ []) a b values inputs = rw (values (codes "--states"), values (codes "--lives"), values (codes "--profile"), values (codes "--cover"), values (codes "--out"), values (codes "--list"), values (codes "--lines"), values (codes "--map"), values (codes "--clock"), values (codes "--reg"), values (codes "--code"), values (codes "--data"), values (codes "--stack"), inputs) refl
 commands-alike verb (f ∷ g ∷ []) a b values inputs =
-    rw (values (codes "--states"), values (codes "--lives"), values (codes "--profile"), values (codes "--cover"), values (codes "--out"), values (codes "--lines"), values (codes "--map"), values (codes "--clock"), values (codes "--reg"), values (codes "--code"), values (codes "--data"), values (codes "--stack"), inputs) refl
+    rw (values (codes "--to"), values (codes "--states"), values (codes "--lives"), values (codes "--profile"), values (codes "--cover"), values (codes "--out"), values (codes "--lines"), values (codes "--map"), values (codes "--clock"), values (codes "--reg"), values (codes "--code"), values (codes "--data"), values (codes "--stack"), inputs) refl
 commands-alike verb (f ∷ g ∷ h ∷ files) a b values inputs =
     rw (values (codes "--states"), values (codes "--lives"), values (codes "--profile"), values (codes "--cover"), values (codes "--out"), values (codes "--lines"), values (codes "--map"), values (codes "--reg"), values (codes "--code"), values (codes "--data"), values (codes "--stack"), inputs) refl
 

@@ -13,11 +13,11 @@ use Rattle.kc_kit_words.specs.declared.values.Form.{Form}
 use Rattle.kc_kit_words.specs.declared.usage.Wrong.TheVariants as wrong
 use Rattle.kc_kit_words.specs.Number.{number_of}
 use Rattle.kc_kit_words.specs.Options.{form_of, has_form, value_of, are_options, inputs_of, clock_in, extent_in, lives_in}
-use Rattle.kc_kit_words.specs.Values.{is_name, is_trace_name, range_of}
-use Rattle.kc_kit_words.specs.Usage.{wrong_text, no_command, bad_value, bad_number, twice, lacks, wrong_value, wrong_last, wrong_option, lacks_out, wrong_extent, wrong_listing, wrong_placing, wrong_outputs, wrong_name, wrong_files, wrong_file, wrong_trace, wrong_dump, wrong_pair, wrong_range, wrong_list, wrong_number, wrong_word, wrong_more, wrong_by, wrong_with, wrong_writes, overwrites, plain_usage_of, wrong_check, wrong_run_options}
+use Rattle.kc_kit_words.specs.Values.{is_name, is_trace_name, is_address, range_of}
+use Rattle.kc_kit_words.specs.Usage.{wrong_text, no_command, bad_value, bad_number, bad_address, twice, lacks, wrong_value, wrong_last, wrong_option, lacks_out, wrong_extent, wrong_listing, wrong_placing, wrong_outputs, wrong_name, wrong_files, wrong_file, wrong_trace, wrong_dump, wrong_pair, wrong_range, wrong_list, wrong_number, wrong_address, wrong_bound, wrong_word, wrong_more, wrong_by, wrong_with, wrong_writes, overwrites, plain_usage_of, wrong_check, wrong_run_options}
 use Rattle.kc_kit_words.specs.UsageLaw.{WrongWhereNoCommand}
-use Rattle.kc_kit_words.specs.Commands.{Command, Helps, ReportsVersion, Runs, Profiles, Assembles, Packs, Links, ProfilesHex, Lists, Debugs, Generates, overwritten, sparing, Checks}
-use Rattle.kc_kit_words.specs.Words.{count_files, files_of, options_of, are_files, placing_of, is_other, are_apart, beside_of, run_so, run_by, assembles_by, assemble_by, pack_by, links_by, link_by, hex_so, hex_by, lists_by, list_by, debug_by, generate_by, dumps_by, dump_by, explain_by, alone, command_by, help_on, plain_command_of, check_by, behind_of, differ}
+use Rattle.kc_kit_words.specs.Commands.{Command, Helps, ReportsVersion, Runs, Profiles, Assembles, Packs, Links, ProfilesHex, Lists, Debugs, Generates, overwritten, sparing, Checks, Bounds}
+use Rattle.kc_kit_words.specs.Words.{count_files, files_of, options_of, are_files, placing_of, is_other, are_apart, beside_of, run_so, run_by, assembles_by, assemble_by, pack_by, links_by, link_by, hex_so, hex_by, lists_by, list_by, debug_by, generate_by, dumps_by, dump_by, explain_by, alone, command_by, help_on, plain_command_of, check_by, bound_by, behind_of, differ}
 use Rattle.kc_kit_words.proofs.OptionLemmas.{behind}
 
 -- ---- options, in pairs with their values
@@ -270,6 +270,17 @@ check-agrees (trace ∷ rules ∷ []) verb options = by (is_trace_name trace) (i
     by false b c = refl
 check-agrees (trace ∷ rules ∷ third ∷ files) verb options = refl
 
+bound-agrees : (files : List (List ℕ)) (verb : List ℕ) (options : List (List ℕ)) → is_some (wrong_bound files) ≡ is_none (bound_by files verb options)
+bound-agrees [] verb options = refl
+bound-agrees (file ∷ []) verb options = refl
+bound-agrees (file ∷ from ∷ []) verb options = by (is_name file) (is_address from) (Bounds file from (value_of (codes "--to") options) (inputs_of verb options))
+  where
+    by : (a b : Bool) (c : Command) → is_some (option_or (cond a None (Some (wrong_text wrong.BadName))) (cond b None (Some (bad_address from)))) ≡ is_none (cond (a && b) (Some c) None)
+    by true true c = refl
+    by true false c = refl
+    by false b c = refl
+bound-agrees (file ∷ from ∷ third ∷ files) verb options = refl
+
 explain-agrees : (files : List (List ℕ)) → is_some (wrong_word files) ≡ is_none (explain_by files)
 explain-agrees [] = refl
 explain-agrees (code ∷ []) = refl
@@ -300,10 +311,11 @@ verbs-agree verb files options w b e =
     (choose (bytes_eq verb (codes "gen")) _ _ b _ _ (gate w _ b _ e (number-agrees files))
     (choose (bytes_eq verb (codes "vcd")) _ _ b _ _ (gate w _ b _ e (dump-agrees files verb options))
     (choose (bytes_eq verb (codes "check")) _ _ b _ _ (gate w _ b _ e (check-agrees files verb options))
+    (choose (bytes_eq verb (codes "bound")) _ _ b _ _ (gate w _ b _ e (bound-agrees files verb options))
     (choose (bytes_eq verb (codes "explain")) _ _ b _ _ (gate w _ b _ e (explain-agrees files))
     (choose (bytes_eq verb (codes "--help")) _ _ b _ _ (gate w _ b _ e (alone-agrees files Helps))
     (choose (bytes_eq verb (codes "--version")) _ _ b _ _ (gate w _ b _ e (alone-agrees files ReportsVersion))
-    (other-verb b (no_command verb) None refl)))))))))))))
+    (other-verb b (no_command verb) None refl))))))))))))))
 
 -- and a command that would write over what it reads is none
 spared : (w : Option (List ℕ)) (b : Bool) (c : Option Command) → is_some w ≡ is_none (cond b c None) → is_some (option_or w (wrong_writes c)) ≡ is_none (cond b (sparing c) None)

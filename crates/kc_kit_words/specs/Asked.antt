@@ -11,7 +11,7 @@ use Rattle.kc_kit_words.specs.declared.command.Command.TheVariants as read
 use Rattle.kc_kit_words.specs.declared.extent.Extent.{Extent}
 use Rattle.kc_kit_words.specs.Inputs.{inputs_in}
 use Rattle.kc_kit_words.specs.Values.{max_states, max_lives}
-use Rattle.kc_kit_words.specs.Commands.{Behind, Beside, Command, Helps, HelpsOn, ReportsVersion, Runs, Profiles, Assembles, Packs, Links, RunsHex, ProfilesHex, Lists, Debugs, Generates, Dumps, Checks, Explains}
+use Rattle.kc_kit_words.specs.Commands.{Behind, Beside, Command, Helps, HelpsOn, ReportsVersion, Runs, Profiles, Assembles, Packs, Links, RunsHex, ProfilesHex, Lists, Debugs, Generates, Dumps, Checks, Bounds, Explains}
 
 -- the names of the files that are written beside a hex file
 abbrev pub beside_in : ReadBeside → Beside
@@ -37,6 +37,7 @@ asked (read.Debug debug) = Debugs debug.file.now debug.script.now (inputs_in deb
 asked (read.Generate generate) = Generates generate.number
 asked (read.Dump dump) = Dumps dump.trace.now (inputs_in dump.inputs) dump.out.now dump.clock
 asked (read.Check check) = Checks check.trace.now check.rules.now (inputs_in check.inputs) check.clock
+asked (read.Bound bound) = Bounds bound.file.now bound.from.now (option_map (λ t. t.now) bound.to) (inputs_in bound.inputs)
 asked (read.Explain explain) = Explains explain.code.now
 
 -- 1 to 64 files

@@ -34,6 +34,7 @@ pub data Command : Type 0 where
   Generates : ℕ → Command
   Dumps : List ℕ → List (Role × List ℕ) → List ℕ → ℕ → Command
   Checks : List ℕ → List ℕ → List (Role × List ℕ) → ℕ → Command
+  Bounds : List ℕ → List ℕ → Option (List ℕ) → List (Role × List ℕ) → Command
   Explains : List ℕ → Command
 
 -- ---- the files that a command names: those that are read, in this order, and those that are written
@@ -58,6 +59,7 @@ names_read (Some (Lists file first last)) = file ∷ []
 names_read (Some (Debugs file script inputs lives)) = file ∷ script ∷ names_of inputs
 names_read (Some (Dumps trace inputs out clock)) = names_of inputs ++ trace ∷ []
 names_read (Some (Checks trace rules inputs clock)) = names_whole rules inputs ++ trace ∷ []
+names_read (Some (Bounds file from to inputs)) = file ∷ names_of inputs
 names_read _ = []
 
 -- the files beside a hex file

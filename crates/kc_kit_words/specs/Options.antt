@@ -8,7 +8,7 @@ use Rattle.kc_kit_words.specs.declared.inputs.Role.{Role}
 use Rattle.kc_kit_words.specs.declared.inputs.Role.TheVariants as role
 use Rattle.kc_kit_words.specs.declared.values.Form.{Form}
 use Rattle.kc_kit_words.specs.declared.values.Form.TheVariants as form
-use Rattle.kc_kit_words.specs.Values.{is_name, is_dash, states_of, lives_of, length_of, clock_of, range_of}
+use Rattle.kc_kit_words.specs.Values.{is_name, is_dash, is_address, states_of, lives_of, length_of, clock_of, range_of}
 
 -- a word stands where an option does: it begins with `-`, and is more than that
 abbrev pub is_option : List ℕ → Bool
@@ -27,6 +27,10 @@ driving_options = (codes "--stim", form.Input role.Stimuli) ∷ (codes "--analog
 abbrev pub running_options : List (List ℕ × Form)
 running_options = (codes "--states", form.States) ∷ (codes "--lives", form.Lives) ∷ (codes "--profile", form.File) ∷ driving_options
 
+-- where a pass ends, and the files that say more of its instructions
+abbrev pub bound_options : List (List ℕ × Form)
+bound_options = (codes "--to", form.Address) ∷ (codes "--notes", form.Input role.Notes) ∷ (codes "--map", form.Input role.Map) ∷ (codes "--lines", form.Input role.Lines) ∷ []
+
 abbrev pub out_option : List ℕ × Form
 out_option = (codes "--out", form.File)
 
@@ -39,6 +43,7 @@ options_for verb =
     else if bytes_eq verb (codes "hex") then running_options
     else if bytes_eq verb (codes "vcd") then out_option ∷ (codes "--clock", form.Clock) ∷ driving_options
     else if bytes_eq verb (codes "check") then (codes "--stim", form.Input role.Stimuli) ∷ (codes "--clock", form.Clock) ∷ []
+    else if bytes_eq verb (codes "bound") then bound_options
     else if bytes_eq verb (codes "debug") then (codes "--lines", form.Input role.Lines) ∷ (codes "--lives", form.Lives) ∷ driving_options
     else []
 
@@ -56,6 +61,7 @@ has_form form.Lives value = is_some (lives_of value)
 has_form form.Length value = is_some (length_of value)
 has_form form.Clock value = is_some (clock_of value)
 has_form form.Span value = is_some (range_of value)
+has_form form.Address value = is_address value
 has_form form.File value = is_name value
 has_form (form.Input role) value = is_name value
 

@@ -11,7 +11,7 @@ use Rattle.kc_kit_words.specs.declared.usage.Wrong.TheVariants as wrong
 use Rattle.kc_kit_words.specs.declared.values.Form.{Form}
 use Rattle.kc_kit_words.specs.Number.{number_of}
 use Rattle.kc_kit_words.specs.Options.{is_option, form_of, has_form, value_of, extent_in}
-use Rattle.kc_kit_words.specs.Values.{is_name, is_trace_name, range_of}
+use Rattle.kc_kit_words.specs.Values.{is_name, is_trace_name, is_address, range_of}
 use Rattle.kc_kit_words.specs.Commands.{Beside, Command, overwritten}
 use Rattle.kc_kit_words.specs.Words.{files_of, options_of, placing_of, is_other, are_apart, are_different, behind_of, beside_of, command_by, help_on}
 
@@ -47,6 +47,9 @@ bad_range range = codes "bad range " ++ word_shown range
 abbrev pub bad_number : List ℕ → List ℕ
 bad_number number = codes "bad number " ++ word_shown number
 
+abbrev pub bad_address : List ℕ → List ℕ
+bad_address word = codes "bad address " ++ word_shown word
+
 -- what is said of a wrong thing
 abbrev pub wrong_text : Wrong → List ℕ
 wrong_text wrong.NoWords = codes "no command"
@@ -67,6 +70,7 @@ wrong_text (wrong.Overwrites name) = overwrites name.now
 wrong_text wrong.OutOfBounds = codes "a range is out of bounds"
 wrong_text (wrong.BadRange range) = bad_range range.now
 wrong_text (wrong.BadNumber number) = bad_number number.now
+wrong_text (wrong.BadAddress word) = bad_address word.now
 
 -- ---- options
 
@@ -170,6 +174,15 @@ wrong_number [] = Some (wrong_text wrong.FewWords)
 wrong_number (number ∷ []) = if is_some (number_of 65535 number) then None else Some (bad_number number)
 wrong_number (number ∷ word ∷ words) = Some (wrong_text wrong.ManyWords)
 
+-- a file and an address
+abbrev pub wrong_address : List ℕ → Option (List ℕ)
+wrong_address word = if is_address word then None else Some (bad_address word)
+
+abbrev pub wrong_bound : List (List ℕ) → Option (List ℕ)
+wrong_bound (file ∷ from ∷ []) = option_or (wrong_name file) (wrong_address from)
+wrong_bound (file ∷ from ∷ word ∷ words) = Some (wrong_text wrong.ManyWords)
+wrong_bound _ = Some (wrong_text wrong.FewWords)
+
 -- any word
 abbrev pub wrong_word : List (List ℕ) → Option (List ℕ)
 wrong_word [] = Some (wrong_text wrong.FewWords)
@@ -197,6 +210,7 @@ wrong_by verb files options wrong_options =
     else if bytes_eq verb (codes "gen") then option_or wrong_options (wrong_number files)
     else if bytes_eq verb (codes "vcd") then option_or wrong_options (option_or (wrong_dump files) (lacks_out options))
     else if bytes_eq verb (codes "check") then option_or wrong_options (wrong_check files)
+    else if bytes_eq verb (codes "bound") then option_or wrong_options (wrong_bound files)
     else if bytes_eq verb (codes "explain") then option_or wrong_options (wrong_word files)
     else if bytes_eq verb (codes "--help") then option_or wrong_options (wrong_more files)
     else if bytes_eq verb (codes "--version") then option_or wrong_options (wrong_more files)

@@ -33,6 +33,11 @@ lives_of word = from_one (up_to max_lives (digits_from 10 0 word))
 abbrev pub length_of : List ℕ → Option ℕ
 length_of word = number_of 65535 word
 
+-- a word for an address: a number, a name, or a line of a module, of which files tell where they are. It has a byte or more, and its
+-- first is no `-`
+abbrev pub is_address : List ℕ → Bool
+is_address word = nat_lt 0 (length word) && not (slice_index word 0 == 45)
+
 -- a number of hertz, 1 or more
 abbrev pub not_zero : Option ℕ → Option ℕ
 not_zero (Some n) = if n == 0 then None else Some n

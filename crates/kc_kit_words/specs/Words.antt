@@ -8,10 +8,10 @@ use Rattle.kc_link_place.specs.declared.ranges.Ranges.{Ranges}
 use Rattle.kc_link_place.specs.Ranges.{are_in_bounds, default_ranges, lies_within}
 use Rattle.kc_kit_words.specs.declared.extent.Extent.{Extent}
 use Rattle.kc_kit_words.specs.declared.inputs.Role.{Role}
-use Rattle.kc_kit_words.specs.Commands.{Beside, Command, Helps, HelpsOn, ReportsVersion, Runs, Profiles, Assembles, Packs, Links, RunsHex, ProfilesHex, Lists, Debugs, Generates, Dumps, Checks, Explains, sparing, Behind}
+use Rattle.kc_kit_words.specs.Commands.{Beside, Command, Helps, HelpsOn, ReportsVersion, Runs, Profiles, Assembles, Packs, Links, RunsHex, ProfilesHex, Lists, Debugs, Generates, Dumps, Checks, Bounds, Explains, sparing, Behind}
 use Rattle.kc_kit_words.specs.Options.{lives_in, is_option, are_options, inputs_of, value_of, clock_in, extent_in, range_in, length_in}
 use Rattle.kc_kit_words.specs.Number.{number_of}
-use Rattle.kc_kit_words.specs.Values.{is_name, is_trace_name, range_of}
+use Rattle.kc_kit_words.specs.Values.{is_name, is_trace_name, is_address, range_of}
 
 -- ---- files stand before the options
 
@@ -163,6 +163,14 @@ abbrev pub check_by : List (List ℕ) → List ℕ → List (List ℕ) → Optio
 check_by (trace ∷ rules ∷ []) verb options = check_of trace rules verb options
 check_by _ verb options = None
 
+-- a hex file, and where the routine begins
+abbrev pub bound_of : List ℕ → List ℕ → List ℕ → List (List ℕ) → Option Command
+bound_of file from verb options = if is_name file && is_address from then Some (Bounds file from (value_of (codes "--to") options) (inputs_of verb options)) else None
+
+abbrev pub bound_by : List (List ℕ) → List ℕ → List (List ℕ) → Option Command
+bound_by (file ∷ from ∷ []) verb options = bound_of file from verb options
+bound_by _ verb options = None
+
 -- a code, or a word that is none
 abbrev pub explain_by : List (List ℕ) → Option Command
 explain_by (code ∷ []) = Some (Explains code)
@@ -184,6 +192,7 @@ command_by verb files options =
     else if bytes_eq verb (codes "gen") then generate_by files
     else if bytes_eq verb (codes "vcd") then dump_by files verb options
     else if bytes_eq verb (codes "check") then check_by files verb options
+    else if bytes_eq verb (codes "bound") then bound_by files verb options
     else if bytes_eq verb (codes "explain") then explain_by files
     else if bytes_eq verb (codes "--help") then alone files Helps
     else if bytes_eq verb (codes "--version") then alone files ReportsVersion
@@ -201,7 +210,7 @@ plain_command_of (verb ∷ words) = command_with verb (files_of words) (options_
 -- ---- help on a command: its word, and `--help`
 
 abbrev pub verbs : List (List ℕ)
-verbs = codes "run" ∷ codes "asm" ∷ codes "lib" ∷ codes "link" ∷ codes "hex" ∷ codes "dis" ∷ codes "debug" ∷ codes "gen" ∷ codes "vcd" ∷ codes "check" ∷ codes "explain" ∷ []
+verbs = codes "run" ∷ codes "asm" ∷ codes "lib" ∷ codes "link" ∷ codes "hex" ∷ codes "dis" ∷ codes "debug" ∷ codes "gen" ∷ codes "vcd" ∷ codes "check" ∷ codes "bound" ∷ codes "explain" ∷ []
 
 abbrev pub is_verb : List ℕ → Bool
 is_verb word = list_any (λ verb. bytes_eq word verb) verbs

@@ -119,6 +119,15 @@ pub struct Check<'a> {
     pub clock: u32,
 }
 
+/// The most states of a routine of a hex file, from an address to where it returns, or to another address where an option says it.
+#[derive(Clone, Copy)]
+pub struct Bound<'a> {
+    pub file: &'a str,
+    pub from: &'a str,
+    pub to: Option<&'a str>,
+    pub inputs: Inputs<'a>,
+}
+
 /// A code that is to be explained.
 #[derive(Clone, Copy)]
 pub struct Explain<'a> {
@@ -149,5 +158,6 @@ pub enum Command<'a> {
     Generate(Generate),
     Dump(Dump<'a>),
     Check(Check<'a>),
+    Bound(Bound<'a>),
     Explain(Explain<'a>),
 }

@@ -16,8 +16,12 @@ pub enum Role {
     Analog,
     /// It is the library from which modules are taken.
     Library,
-    /// It is the line map of what is debugged.
+    /// It is the line map of what is debugged, or of what is bounded.
     Lines,
+    /// It is a linker's map, which says where public names are.
+    Map,
+    /// It has notes on loops, computed jumps and block moves.
+    Notes,
 }
 
 /// A file that an option names for reading.

@@ -15,7 +15,7 @@ mod values;
 mod words;
 
 pub use command::{
-    Assemble, Behind, Beside, Check, Command, Debug, Dump, Explain, Generate, Link, List, Pack,
+    Assemble, Behind, Beside, Bound, Check, Command, Debug, Dump, Explain, Generate, Link, List, Pack,
     Profile, ProfileHex, Run, RunHex,
 };
 pub use extent::Extent;

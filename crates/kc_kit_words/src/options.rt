@@ -3,7 +3,7 @@ ghost use Rattle.std.specs.Prelude.{◌≡◌, ◌≤◌, ◌&&◌, is_none, map
 ghost use Rattle.std.specs.Option.{option_map, option_and_then};
 ghost use Rattle.kc_base.specs.TextLines.{begins_with};
 ghost use Rattle.kc_kit_words.specs.Asked.{IsBounded};
-ghost use Rattle.kc_kit_words.specs.Options.{is_option, placing_options, driving_options, running_options, form_among, form_of, takes, value_of, are_options, states_in, lives_in, extent_in, clock_in, range_in, length_in};
+ghost use Rattle.kc_kit_words.specs.Options.{is_option, placing_options, driving_options, running_options, bound_options, form_among, form_of, takes, value_of, are_options, states_in, lives_in, extent_in, clock_in, range_in, length_in};
 ghost use Rattle.kc_kit_words.specs.Values.{clock_of, max_states, max_lives};
 ghost use Rattle.kc_kit_words.specs.Words as spec;
 
@@ -79,6 +79,19 @@ fn running_form(option: &str) -> Option<Form>
     }
 }
 
+// The form of the value of an option that says where a pass ends, or names a file that says more of its instructions.
+fn bound_form(option: &str) -> Option<Form>
+    ensures { result ≡ form_among option.now bound_options }
+{
+    match option {
+        "--to" => Some(Form::Address),
+        "--notes" => Some(Form::Input(Role::Notes)),
+        "--map" => Some(Form::Input(Role::Map)),
+        "--lines" => Some(Form::Input(Role::Lines)),
+        _ => None,
+    }
+}
+
 /// The form of the value of an option, or none where the command does not take it.
 pub(crate) fn form_of(verb: &str, option: &str) -> Option<Form>
     ensures { result ≡ form_of verb.now option.now }
@@ -115,6 +128,7 @@ pub(crate) fn form_of(verb: &str, option: &str) -> Option<Form>
             "--clock" => Some(Form::Clock),
             _ => None,
         },
+        "bound" => bound_form(option),
         "debug" => match option {
             "--lines" => Some(Form::Input(Role::Lines)),
             "--lives" => Some(Form::Lives),

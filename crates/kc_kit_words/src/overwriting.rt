@@ -68,6 +68,7 @@ fn reads(command: &Command<'_>, name: &str) -> bool
         Command::Check(check) => {
             check.rules == name || is_input(name, check.inputs) || check.trace == name
         }
+        Command::Bound(bound) => bound.file == name || is_input(name, bound.inputs),
         _ => false,
     }
 }

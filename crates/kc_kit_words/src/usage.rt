@@ -6,7 +6,7 @@ ghost use Rattle.kc_trace.specs.Trace.{out_of};
 ghost use Rattle.kc_kit_files.specs.Shown.{word_shown};
 ghost use Rattle.kc_kit_words.specs.Asked.{asked};
 ghost use Rattle.kc_kit_words.specs.Options.{form_of, value_of};
-ghost use Rattle.kc_kit_words.specs.Usage.{wrong_text, bad_value, lacks, unknown, wrong_writes, wrong_value, wrong_last, wrong_option, lacks_out, wrong_extent, wrong_listing, wrong_placing, wrong_outputs, wrong_name, wrong_files, wrong_file, wrong_pair, wrong_trace, wrong_dump, wrong_check, wrong_range, wrong_list, wrong_number, wrong_word, wrong_more, wrong_by, plain_usage_of, usage_of, usage_diagnostic, wrong_behind, wrong_run_options};
+ghost use Rattle.kc_kit_words.specs.Usage.{wrong_text, bad_value, lacks, unknown, wrong_writes, wrong_value, wrong_last, wrong_option, lacks_out, wrong_extent, wrong_listing, wrong_placing, wrong_outputs, wrong_name, wrong_files, wrong_file, wrong_pair, wrong_trace, wrong_dump, wrong_check, wrong_range, wrong_list, wrong_number, wrong_address, wrong_bound, wrong_word, wrong_more, wrong_by, plain_usage_of, usage_of, usage_diagnostic, wrong_behind, wrong_run_options};
 ghost use Rattle.kc_kit_words.specs.UsageLaw.{WrongWhereNoCommand};
 ghost use Rattle.kc_kit_words.specs.Values.{range_of};
 ghost use Rattle.kc_kit_words.specs.Words.{beside_of};
@@ -14,7 +14,7 @@ ghost use Rattle.kc_kit_words.specs.Words.{beside_of};
 use crate::command::Command;
 use crate::options::{count_files, extent_in, form_of, is_option, value_of};
 use crate::overwriting::overwritten;
-use crate::values::{has_form, is_name, is_trace_name, range, short};
+use crate::values::{has_form, is_address, is_name, is_trace_name, range, short};
 use crate::words::{
     MAX_FILES, are_apart, are_different, are_names, behind_in, beside_in, help_on, is_other,
     placing, read_command,
@@ -58,6 +58,8 @@ pub enum Wrong<'a> {
     BadRange(&'a str),
     /// The word is no number up to 65,535.
     BadNumber(&'a str),
+    /// The word may stand for no address.
+    BadAddress(&'a str),
 }
 
 // Puts a text, and a word behind it, as it is shown.
@@ -120,6 +122,7 @@ impl Wrong<'_> {
             Wrong::OutOfBounds => diagnostics.put_text(b"a range is out of bounds"),
             Wrong::BadRange(range) => put_word(diagnostics, "bad range ", range),
             Wrong::BadNumber(number) => put_word(diagnostics, "bad number ", number),
+            Wrong::BadAddress(word) => put_word(diagnostics, "bad address ", word),
         }
     }
 }
@@ -392,6 +395,28 @@ fn wrong_number(words: &[String]) -> Option<Wrong<'_>>
     }
 }
 
+// What is wrong with a word for an address.
+fn wrong_address(word: &str) -> Option<Wrong<'_>>
+    ensures { option_map wrong_text result ≡ wrong_address word.now }
+{
+    if is_address(word) {
+        None
+    } else {
+        Some(Wrong::BadAddress(word))
+    }
+}
+
+// What is wrong with a hex file and the address of a routine.
+fn wrong_bound(words: &[String]) -> Option<Wrong<'_>>
+    ensures { option_map wrong_text result ≡ wrong_bound (map string_bytes words.now) }
+{
+    match words {
+        [] | [_] => Some(Wrong::FewWords),
+        [file, from] => first(wrong_name(file.as_str()), wrong_address(from.as_str())),
+        _ => Some(Wrong::ManyWords),
+    }
+}
+
 // What is wrong with one word, whatever it is.
 fn wrong_word<'a>(words: &[String]) -> Option<Wrong<'a>>
     ensures { option_map wrong_text result ≡ wrong_word (map string_bytes words.now) }
@@ -463,6 +488,7 @@ fn wrong_by<'a>(verb: &'a str, files: &'a [String], options: &'a [String]) -> Op
         "gen" => first(wrong_options, wrong_number(files)),
         "vcd" => first(wrong_options, first(wrong_dump(files), lacks_out(options))),
         "check" => first(wrong_options, wrong_check(files)),
+        "bound" => first(wrong_options, wrong_bound(files)),
         "explain" => first(wrong_options, wrong_word(files)),
         "--help" | "--version" => first(wrong_options, wrong_more(files)),
         _ => Some(Wrong::NoCommand(verb)),

@@ -1,7 +1,7 @@
 // The values of options.
 ghost use Rattle.std.specs.Prelude.{◌≡◌, ◌≤◌, ◌<◌, ◌==◌, IfSome, position, length};
 ghost use Rattle.kc_kit_words.specs.Number.{number_of};
-ghost use Rattle.kc_kit_words.specs.Values.{is_name, is_dash, is_trace_name, max_states, max_lives, states_of, lives_of, length_of, clock_of, range_of};
+ghost use Rattle.kc_kit_words.specs.Values.{is_name, is_dash, is_trace_name, is_address, max_states, max_lives, states_of, lives_of, length_of, clock_of, range_of};
 ghost use Rattle.kc_kit_words.specs.Options.{has_form};
 
 use crate::inputs::Role;
@@ -21,6 +21,8 @@ pub(crate) enum Form {
     Clock,
     /// Two addresses round a `-`.
     Span,
+    /// A word for an address.
+    Address,
     /// The name of a file.
     File,
     /// The name of a file that is read beside the first ones.
@@ -52,6 +54,16 @@ pub(crate) fn is_trace_name(name: &str) -> bool
     ensures { result ≡ is_trace_name name.now }
 {
     is_name(name) || is_dash(name)
+}
+
+/// Whether a word may stand for an address.
+pub(crate) fn is_address(word: &str) -> bool
+    ensures { result ≡ is_address word.now }
+{
+    match word.as_bytes().first() {
+        Some(first) => *first != b'-',
+        None => false,
+    }
 }
 
 /// A number of state times.
@@ -127,6 +139,7 @@ pub(crate) fn has_form(form: Form, value: &str) -> bool
         Form::Length => bytes(value).is_some(),
         Form::Clock => clock(value).is_some(),
         Form::Span => range(value).is_some(),
+        Form::Address => is_address(value),
         Form::File | Form::Input(_) => is_name(value),
     }
 }

@@ -3,13 +3,13 @@ ghost use Rattle.std.specs.Prelude.{◌≡◌, Some, IfSome, length, map, string
 ghost use Rattle.std.specs.List.{list_all};
 ghost use Rattle.std.specs.Option.{option_map, unwrap_or};
 ghost use Rattle.kc_kit_words.specs.Values.{is_name};
-ghost use Rattle.kc_kit_words.specs.Words.{command_of, plain_command_of, command_by, run_by, assemble_by, pack_by, link_by, hex_by, hex_of, list_by, list_of, debug_by, debug_of, generate_by, dump_by, dump_of, check_by, check_of, explain_by, are_files, beside_of, placing_of, behind_of};
+ghost use Rattle.kc_kit_words.specs.Words.{command_of, plain_command_of, command_by, run_by, assemble_by, pack_by, link_by, hex_by, hex_of, list_by, list_of, debug_by, debug_of, generate_by, dump_by, dump_of, check_by, check_of, bound_by, bound_of, explain_by, are_files, beside_of, placing_of, behind_of};
 ghost use Rattle.kc_kit_words.specs.Words as spec;
 ghost use Rattle.kc_kit_words.specs.Asked.{asked, behind_in, beside_in, AreLinkable, IsBounded, IsWithin};
 ghost use Rattle.kc_kit_words.specs.Inputs.{inputs_in};
 
 use crate::command::{
-    Assemble, Behind, Beside, Check, Command, Debug, Dump, Explain, Generate, HelpOn, Link, List,
+    Assemble, Behind, Beside, Bound, Check, Command, Debug, Dump, Explain, Generate, HelpOn, Link, List,
     Pack, Profile, ProfileHex, Run, RunHex,
 };
 use crate::extent::Extent;
@@ -18,7 +18,7 @@ use crate::options::{
     are_options, clock_in, count_files, extent_in, length_in, lives_in, range_in, value_of,
 };
 use crate::overwriting::sparing;
-use crate::values::{is_name, is_trace_name, range, short};
+use crate::values::{is_address, is_name, is_trace_name, range, short};
 use kc_base::IMAGE_START;
 use kc_link_place::Ranges;
 
@@ -426,6 +426,41 @@ fn read_check<'a>(files: &'a [String], verb: &'a str, options: &'a [String]) -> 
     checking(files[0].as_str(), files[1].as_str(), verb, options)
 }
 
+// The bound of a routine of a hex file.
+fn bounding<'a>(
+    file: &'a str,
+    from: &'a str,
+    verb: &'a str,
+    options: &'a [String],
+) -> Option<Command<'a>>
+    ensures asked { option_map asked result ≡ bound_of file.now from.now verb.now (map string_bytes options.now) }
+    ensures within { IfSome result IsWithin }
+{
+    if is_name(file) && is_address(from) {
+        Some(Command::Bound(Bound {
+            file,
+            from,
+            to: value_of("--to", options),
+            inputs: Inputs {
+                verb,
+                words: options,
+            },
+        }))
+    } else {
+        None
+    }
+}
+
+fn read_bound<'a>(files: &'a [String], verb: &'a str, options: &'a [String]) -> Option<Command<'a>>
+    ensures asked { option_map asked result ≡ bound_by (map string_bytes files.now) verb.now (map string_bytes options.now) }
+    ensures within { IfSome result IsWithin }
+{
+    if files.len() != 2 {
+        return None;
+    }
+    bounding(files[0].as_str(), files[1].as_str(), verb, options)
+}
+
 fn read_explain<'a>(files: &'a [String]) -> Option<Command<'a>>
     ensures asked { option_map asked result ≡ explain_by (map string_bytes files.now) }
     ensures within { IfSome result IsWithin }
@@ -471,6 +506,7 @@ pub(crate) fn read_command<'a>(
         "gen" => read_generate(files),
         "vcd" => read_dump(files, verb, options),
         "check" => read_check(files, verb, options),
+        "bound" => read_bound(files, verb, options),
         "explain" => read_explain(files),
         "--help" => alone(files, Command::Help),
         "--version" => alone(files, Command::Version),
@@ -494,6 +530,7 @@ fn is_verb(word: &str) -> bool
             | "gen"
             | "vcd"
             | "check"
+            | "bound"
             | "explain"
     )
 }

@@ -18,7 +18,7 @@ use std::sync::ledger::{Blank, Ledger};
 use std::test::Fail;
 
 /// Puts bytes into an image, from an address on.
-fn put(image: &mut Image, at: u16, bytes: &[u8]) {
+pub(crate) fn put(image: &mut Image, at: u16, bytes: &[u8]) {
     let mut addr = at;
     for byte in bytes {
         if addr >= 0x2000 {

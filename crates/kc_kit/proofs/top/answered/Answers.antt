@@ -1,4 +1,4 @@
-use Rattle.std.proofs.Common.{◌≡◌, [], Some, inl, ap, subst, map, string_bytes}
+use Rattle.std.proofs.Common.{◌≡◌, [], Some, inl, ap, sym, subst, map, string_bytes}
 use Rattle.kc_base.specs.Causes.{Rose}
 use Rattle.kc_trace.specs.Trace.{out_of}
 use Rattle.kc_kit_files.specs.declared.status.Status.TheVariants as status
@@ -15,7 +15,7 @@ use Rattle.kc_kit_inputs.specs.Sources.{AnyDiagnostic}
 use Rattle.kc_kit_answer.specs.Answer.{MayAnswer}
 use Rattle.kc_kit_answer.specs.Lines.{usage_line}
 use Rattle.kc_kit_answer.proofs.AnswerSteps.{holds-none}
-use Rattle.kc_kit.proofs.Ending.{no-usage}
+use Rattle.kc_kit.proofs.Ending.{nothing-wrong}
 use Rattle.kc_kit.proofs.DiagnosticLemmas.{may-any}
 use Rattle.kc_kit.proofs.top.answered.Goals as goal
 
@@ -32,7 +32,7 @@ returns-in-None-clause-diagnostics g c =
     let reported = g.F.Files.held c.args.files.now in
     let rose : Type 0 = Rose (g.F.Files.read_faults c.args.files.now) (g.F.Files.read_faults c.args.files.now) in
     noted-usage (usage_diagnostic (map string_bytes c.args.words.now)) (λ (response : Response). response ≡ says status.Usage usage_line) (MayAnswer IsFaultDiagnostic (command_of (map string_bytes c.args.words.now)) reported rose) _ _ _ _ _ _ _
-    (λ r e. subst (λ o. MayAnswer IsFaultDiagnostic o reported rose r) c.in-None.ensures.asked ([], holds-none reported, inl e)) (λ r e. ap (λ (w : Response). w.writes) e)
+    (λ r e. subst (λ o. MayAnswer IsFaultDiagnostic o reported rose r) c.in-None.ensures.asked ([], holds-none reported, inl e)) (λ r e. ap (λ (w : Response). w.writes) e) (λ r e. ap (λ (w : Response). w.diagnostic) e)
     c.refuse_words.ensures.status (c.refuse_words.ensures.response (kept reported (g.F.Files.write_faults c.args.files.now))) c.refuse_words.ensures.usage c.refuse_words.ensures.output
 
 pub returns-in-Some-clause-answer : goal.returns-in-Some-clause-answer
@@ -54,4 +54,4 @@ returns-in-Some-clause-diagnostics g c =
     let b = out_of g.N.Sink.written g.N.Sink.faults c.put_diagnostic.new.diagnostics in
     subst (λ o. Noted usage (MayAnswer IsFaultDiagnostic o reported rose) (kept reported (g.F.Files.write_faults c.args.files.now)) (shown (g.S.Sink.written c.args.out.now.sink) (g.S.Sink.faults c.args.out.now.sink)) a c.done-ended.result.status
     (kept (g.F.Files.held c.done-ended.new.files) (g.F.Files.write_faults c.done-ended.new.files)) (shown (g.S.Sink.written c.done-ended.new.out.sink) (g.S.Sink.faults c.done-ended.new.out.sink)) b) c.in-Some.ensures.asked
-    (Ends-noted usage (MayAnswer IsFaultDiagnostic (Some (asked c.in-Some.command)) reported rose) _ _ a c.done-ended.result.status c.done-ended.result.said _ _ b (no-usage IsFaultDiagnostic (asked c.in-Some.command) reported rose) c.done-ended.ensures c.put_diagnostic.ensures)
+    (Ends-noted usage (MayAnswer IsFaultDiagnostic (Some (asked c.in-Some.command)) reported rose) _ _ a c.done-ended.result.status c.done-ended.result.said _ _ b (nothing-wrong (map string_bytes c.args.words.now) (asked c.in-Some.command) (sym c.in-Some.ensures.asked)) c.done-ended.ensures c.put_diagnostic.ensures)

@@ -100,6 +100,11 @@ returns-in-Check g c =
     finished g.F.Files.held g.F.Files.read_faults g.F.Files.write_faults c.args.command.now _ c.args.files.now c.prepare_check.new.files c.finish-in-Check.new.files c.prepare_check.result _ _ _
     c.in-Check.is c.prepare_check.ensures c.finish-in-Check.ensures.answer c.finish-in-Check.ensures.no_read
 
+pub returns-in-Bound : goal.returns-in-Bound
+returns-in-Bound g c =
+    finished g.F.Files.held g.F.Files.read_faults g.F.Files.write_faults c.args.command.now _ c.args.files.now c.prepare_bound-prepared.new.files c.finish-in-Bound.new.files c.prepare_bound-prepared.result _ _ _
+    c.in-Bound.is c.prepare_bound-prepared.ensures c.finish-in-Bound.ensures.answer c.finish-in-Bound.ensures.no_read
+
 pub returns-in-Explain : goal.returns-in-Explain
 returns-in-Explain g c =
     let reported = g.F.Files.held c.args.files.now in
