@@ -92,7 +92,7 @@ of-unknown : (unknown : Type 0) (word : List ℕ) (r : Response) → unknown →
 of-unknown unknown word r u h = (ap (λ (k : Response). k.writes) h, inl (ap (λ (k : Response). k.status) h, u))
 
 of-report : (unknown : Type 0) (image : List ℕ) (said : NotesRead) (first : ℕ) (r : Response) → IsReported image said first r → PassesEnd unknown r
-of-report unknown image said first r h = (ap (λ (k : Response). k.writes) h.response, inr (by h.is_bound (ap (λ (k : Response). k.status) h.response)))
+of-report unknown image said first r h = (ap (λ (k : Response). k.writes) h.answered, inr (by h.is_bound (ap (λ (k : Response). k.status) h.answered)))
   where
     by : (b : Bool) → r.status ≡ report_status b → IsFound r.status
     by true e = inl e

@@ -57,7 +57,7 @@ pub record IsReported (image : List ℕ) (said : NotesRead) (from : ℕ) (respon
   pub is_bound : Bool
   pub text : List ℕ
   pub report : IsReport image notes from is_bound text
-  pub response : response ≡ says (report_status is_bound) text
+  pub answered : response ≡ says (report_status is_bound) text
 
 -- from a word on, and to another one where it is given
 abbrev pub PassesAnswer : List ℕ → Option (List ℕ) → List ℕ → Annotations → Response → Type 0

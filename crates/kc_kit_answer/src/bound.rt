@@ -116,7 +116,7 @@ fn end_of(
 
 // Notes with one end more, where there is one.
 fn with_end(mut notes: Notes, end: Option<u16>) -> Result<Notes, NoMemory>
-    ensures { IfOk result (λ notes. notes_read notes ≡ end_added end (notes_read notes.entry)) }
+    ensures { IfOk result (λ ended. notes_read ended ≡ end_added end (notes_read notes)) }
 {
     if let Some(at) = end {
         notes.ends.push(at)?;
@@ -132,7 +132,7 @@ fn bound_passes<'a>(
     image: &Image,
     annotations: Annotations,
 ) -> Result<Job<'a>, Refusal>
-    ensures { IsPrepared (PassesAnswer from.now (option_map (λ t. t.now) to.entry) image.now (said_in annotations.entry)) result }
+    ensures { IsPrepared (PassesAnswer from.now (option_map (λ t. t.now) to.entry) image.now (said_in annotations)) result }
 {
     let first = match place_of(alloc, &annotations, from) {
         Ok(first) => first,
@@ -165,7 +165,7 @@ fn report_job<'a>(
 
 // The job that prints a report.
 fn printed<'a>(alloc: Global, report: Report) -> Job<'a>
-    ensures does { does result ≡ says (report_status report.entry.is_bound) report.entry.text.items }
+    ensures does { does result ≡ says (report_status report.is_bound) report.text.items }
     ensures doable { IsDoable result }
 {
     let Report { text, is_bound } = report;

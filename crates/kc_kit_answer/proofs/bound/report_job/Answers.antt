@@ -9,7 +9,7 @@ returns-in-Ok c = (
     is_bound = c.in-Ok.report.is_bound;
     text = c.in-Ok.report.text.items;
     report = c.in-Ok.ensures;
-    response = c.printed.ensures.does;
+    answered = c.printed.ensures.does;
   },
   c.printed.ensures.doable,
 )
