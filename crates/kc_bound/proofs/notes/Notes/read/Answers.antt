@@ -4,7 +4,7 @@ use Rattle.kc_base.specs.TextLines.{text_lines}
 use Rattle.kc_addresses.specs.Lines.{read_from}
 use Rattle.kc_addresses.proofs.LineLemmas.{read-some, read-none, read-end, is_added, says_nothing}
 use Rattle.kc_bound.specs.Reading.{address_of, notes_read, with_line}
-use Rattle.kc_bound.proofs.reading.Notes.read.Goals as goal
+use Rattle.kc_bound.proofs.notes.Notes.read.Goals as goal
 
 pub returns-then-not-branch : goal.returns-then-not-branch
 returns-then-not-branch c =
