@@ -1,4 +1,4 @@
-use Rattle.std.proofs.Common.{◌≡◌, true, false, List, Some, None, length, map, sym, ap, ◌∙◌}
+use Rattle.std.proofs.Common.{◌≡◌, true, false, List, Some, length, map, sym, ap, ◌∙◌}
 use Rattle.std.specs.Prelude.{◌==◌, nat_lt}
 use Rattle.std.specs.List.{list_any, take_while}
 use Rattle.std.specs.Option.{option_map}
