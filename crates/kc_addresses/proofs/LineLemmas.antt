@@ -1,7 +1,7 @@
 -- Lines that are read one after the other.
-use Rattle.std.proofs.Common.{◌≡◌, ℕ, ◌+◌, Option, Some, None, Ok, Err, List, [], ◌∷◌, length, refl, sym, ap, ◌∙◌, arith}
+use Rattle.std.proofs.Common.{◌≡◌, ℕ, ◌+◌, Bool, true, false, Option, Some, None, Ok, Err, List, [], ◌∷◌, length, refl, sym, ap, ◌∙◌, arith}
 use Rattle.kc_base.specs.TextLines.{text_lines}
-use Rattle.kc_addresses.specs.Lines.{goes_on, read_from}
+use Rattle.kc_addresses.specs.Lines.{goes_on, read_from, IsAdded}
 
 -- the first line of a text adds something
 pub read-some : {S : Type 0} (add : S → List ℕ → Option S) (number : ℕ) (s t : S) (text line rest : List ℕ) →
@@ -26,3 +26,13 @@ pub read-end : {S : Type 0} (add : S → List ℕ → Option S) (number : ℕ) (
 unfolding text_lines
 read-end add number s [] none = no_lines add number s
 read-end add number s (c ∷ cs) none = absurd (omega arith)
+
+-- ---- a line that is added, or says nothing
+
+pub is_added : {S : Type 0} (b : Bool) (with_one : Option S) (s : S) → b ≡ true → IsAdded b with_one s → with_one ≡ Some s
+is_added true with_one s t h = h
+is_added false with_one s t h = absurd cc
+
+pub says_nothing : {S : Type 0} (b : Bool) (with_one : Option S) (s : S) → b ≡ false → IsAdded b with_one s → with_one ≡ None
+says_nothing true with_one s t h = absurd cc
+says_nothing false with_one s t h = h

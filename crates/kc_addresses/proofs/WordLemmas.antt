@@ -1,7 +1,8 @@
 -- The words of a text, by the first of them.
-use Rattle.std.proofs.Common.{◌≡◌, ℕ, suc, ◌+◌, ◌<◌, ◌≤◌, Bool, true, false, cond, not, List, [], ◌∷◌, length, take, drop, get_or, refl, sym, ap, subst, ◌∙◌, inl, inr, arith}
+use Rattle.std.proofs.Common.{◌≡◌, ℕ, ◌<◌, Bool, true, false, cond, not, eqb, List, [], ◌∷◌, length, take, drop, get_or, refl, sym, ap, subst, ◌∙◌, inl, inr, arith}
+use Rattle.std.specs.Prelude.{◌↔◌, IsTrue}
 use Rattle.std.specs.List.{take_while}
-use Rattle.std.proofs.lemmas.Bool.{cases_Bool}
+use Rattle.std.proofs.lemmas.Bool.{cases_Bool, eqb-true}
 use Rattle.std.proofs.lemmas.List.Sums.{take_while-cons}
 use Rattle.kc_base.specs.TextLines.{with_first}
 use Rattle.kc_addresses.specs.Words.{is_blank, without_blanks, first_word, behind_word, joined_to, words_in, words_with}
@@ -94,14 +95,20 @@ cut_words s w r word rest = words-cut s ∙ ap (λ v. words_with v (behind_word 
 
 -- ---- a word or none
 
-pub words_with-some : (w r : List ℕ) → 0 < length w → words_with w r ≡ w ∷ words_in r
-words_with-some [] r some = absurd (omega arith)
-words_with-some (c ∷ cs) r some = refl
+pub words_with_some : (w r : List ℕ) → 0 < length w → words_with w r ≡ w ∷ words_in r
+words_with_some [] r some = absurd (omega arith)
+words_with_some (c ∷ cs) r some = refl
 
-pub words_with-none : (w r : List ℕ) → length w ≡ 0 → words_with w r ≡ []
-words_with-none [] r none = refl
-words_with-none (c ∷ cs) r none = absurd (omega arith)
+pub words_with_none : (w r : List ℕ) → length w ≡ 0 → words_with w r ≡ []
+words_with_none [] r none = refl
+words_with_none (c ∷ cs) r none = absurd (omega arith)
 
-pub words_with-empty : (w r : List ℕ) → words_with w r ≡ [] → length w ≡ 0
-words_with-empty [] r none = refl
-words_with-empty (c ∷ cs) r none = absurd cc
+pub words_with_empty : (w r : List ℕ) → words_with w r ≡ [] → length w ≡ 0
+words_with_empty [] r none = refl
+words_with_empty (c ∷ cs) r none = absurd cc
+
+pub over : (w r : List ℕ) (all : List (List ℕ)) (b : Bool) → all ≡ words_with w r → b ≡ eqb (length w) 0 → IsTrue b ↔ (all ≡ [])
+over w r all b words test = (
+  λ t. words ∙ words_with_none w r (eqb-true (length w) 0 (sym test ∙ t)),
+  λ none. test ∙ ap (λ n. eqb n 0) (words_with_empty w r (sym words ∙ none)),
+)

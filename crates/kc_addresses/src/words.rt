@@ -1,5 +1,5 @@
 // The words of a line.
-ghost use Rattle.std.specs.Prelude.{◌≡◌, ◌<◌, ◌≤◌, ◌∷◌, [], not, length, IfSome, IsNone, IsTrue, ◌↔◌};
+ghost use Rattle.std.specs.Prelude.{◌≡◌, ◌<◌, ◌≤◌, ◌==◌, ◌∷◌, [], not, length, IfSome, IsNone, IsTrue, ◌↔◌};
 ghost use Rattle.std.specs.List.{take_while};
 ghost use Rattle.kc_addresses.specs.Words.{is_blank as is_space_or_tab, is_over as has_no_word, before_comment as without_comment, without_blanks as unindented, first_word, behind_word, words_in, words_with};
 
@@ -11,12 +11,19 @@ fn is_blank(c: u8) -> bool
     c == b' ' || c == b'\t'
 }
 
+// How many characters stand before the first `;`.
+fn comment_place(line: &[u8]) -> usize
+    ensures value { result ≡ length (take_while (λ c. not (c == 59)) line.now) }
+    ensures within { result ≤ length line.now }
+{
+    line.iter().take_while(|c| **c != b';').count()
+}
+
 /// What stands in a line before its first `;`.
 pub fn before_comment(line: &[u8]) -> &[u8]
     ensures { result.now ≡ without_comment line.now }
 {
-    let len = line.iter().take_while(|c| **c != b';').count();
-    line.split_at(len).0
+    prefix(line, comment_place(line))
 }
 
 // How many blanks stand at the beginning.
@@ -55,6 +62,7 @@ pub fn cut(text: &[u8]) -> (&[u8], &[u8])
 }
 
 /// The first word of a text, and what stands behind it; `None` where there is no word.
+#[tactic(auto, using(crate::proofs::WordLemmas::words_with_some, crate::proofs::WordLemmas::words_with_none))]
 pub fn next_word(text: &[u8]) -> Option<(&[u8], &[u8])>
     ensures some { IfSome result (λ p. words_in text.now ≡ p.0.now ∷ words_in p.1.now) }
     ensures shorter { IfSome result (λ p. length p.1.now < length text.now) }

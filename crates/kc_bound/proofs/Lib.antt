@@ -15,3 +15,4 @@ pub mod Steps
 pub mod Passes
 mod CheckLemmas
 mod ReadingLemmas
+mod Rising

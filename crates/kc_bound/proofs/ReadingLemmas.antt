@@ -6,7 +6,7 @@ use Rattle.std.specs.Option.{option_map}
 use Rattle.std.proofs.lemmas.List.{take-map, drop-map, map-append, append-nil, append_assoc}
 use Rattle.std.proofs.lemmas.List.Sums.{take_while-cons}
 use Rattle.kc_addresses.specs.Lines.{IsAdded}
-use Rattle.kc_bound.specs.Reading.{Reader, NotesRead, LoopRead, GoesRead, with_first, addresses_of, put_in, with_new, with_loops, with_goes, with_words, with_ends}
+use Rattle.kc_bound.specs.Reading.{Reader, NotesRead, LoopRead, GoesRead, in_front, addresses_of, put_in, with_new, with_loops, with_goes, with_words, with_ends}
 use Rattle.kc_bound.specs.declared.notes.Moved.{Moved}
 
 -- ---- lists
@@ -65,7 +65,7 @@ old-read f at xs a old = old-one at (map f xs) (f a) (list_any-map f (same at (f
 abbrev pub behind : List ℕ → Option (List ℕ) → Option (List ℕ)
 behind before more = option_map (λ found. before ++ found) more
 
-pushed : (before : List ℕ) (a : ℕ) (more : Option (List ℕ)) → behind before (with_first (Some a) more) ≡ behind (before ++ a ∷ []) more
+pushed : (before : List ℕ) (a : ℕ) (more : Option (List ℕ)) → behind before (in_front (Some a) more) ≡ behind (before ++ a ∷ []) more
 pushed before a None = refl
 pushed before a (Some more) = ap (λ found. Some found) (sym (append_assoc before (a ∷ []) more))
 
@@ -73,12 +73,12 @@ pub one-address : (address : Reader) (before : List ℕ) (a : ℕ) (all words : 
     behind before (addresses_of address all) ≡ behind (before ++ a ∷ []) (addresses_of address words)
 one-address address before a all words word split is =
     ap (λ ws. behind before (addresses_of address ws)) split
-    ∙ ap (λ o. behind before (with_first o (addresses_of address words))) is ∙ pushed before a (addresses_of address words)
+    ∙ ap (λ o. behind before (in_front o (addresses_of address words))) is ∙ pushed before a (addresses_of address words)
 
 pub no-address : (address : Reader) (before : List ℕ) (all words : List (List ℕ)) (word : List ℕ) → all ≡ word ∷ words → address word ≡ None →
     behind before (addresses_of address all) ≡ None
 no-address address before all words word split is =
-    ap (λ ws. behind before (addresses_of address ws)) split ∙ ap (λ o. behind before (with_first o (addresses_of address words))) is
+    ap (λ ws. behind before (addresses_of address ws)) split ∙ ap (λ o. behind before (in_front o (addresses_of address words))) is
 
 pub no-words : (address : Reader) (before : List ℕ) (all : List (List ℕ)) → all ≡ [] → behind before (addresses_of address all) ≡ Some before
 no-words address before all none = ap (λ ws. behind before (addresses_of address ws)) none ∙ ap (λ found. Some found) (append-nil before)

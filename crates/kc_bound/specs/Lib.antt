@@ -7,3 +7,4 @@ pub mod Bounded
 pub mod Steps
 pub mod Times
 pub mod Reading
+pub mod Rising

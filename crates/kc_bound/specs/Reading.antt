@@ -40,14 +40,15 @@ address_of names lines word = if_is is_in_rom (meant_by names lines word)
 abbrev pub Reader : Type 0
 Reader = List ℕ → Option ℕ
 
-abbrev pub with_first : Option ℕ → Option (List ℕ) → Option (List ℕ)
-with_first None more = None
-with_first (Some a) None = None
-with_first (Some a) (Some more) = Some (a ∷ more)
+-- an address in front of others, if it and they are
+abbrev pub in_front : Option ℕ → Option (List ℕ) → Option (List ℕ)
+in_front None more = None
+in_front (Some a) None = None
+in_front (Some a) (Some more) = Some (a ∷ more)
 
 abbrev pub addresses_of : Reader → List (List ℕ) → Option (List ℕ)
 addresses_of address [] = Some []
-addresses_of address (word ∷ words) = with_first (address word) (addresses_of address words)
+addresses_of address (word ∷ words) = in_front (address word) (addresses_of address words)
 
 abbrev pub are_distinct : List ℕ → Bool
 are_distinct [] = true

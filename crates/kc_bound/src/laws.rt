@@ -1,4 +1,5 @@
 ghost use Rattle.kc_bound.specs.Bounded.{CertifiedIsBounded};
+ghost use Rattle.kc_bound.specs.Rising.{NotesStandByAddress};
 ghost use Rattle.kc_bound.specs.Steps.{StatesAreMost, FoundIsDecoded, TurnIsPaid};
 
 /// An instruction takes at most the states of its way.
@@ -19,4 +20,9 @@ pub fn turn_is_paid()
 /// What a certificate shows is so: each pass keeps to its bound.
 pub fn certified_is_bounded<X>()
     ensures { CertifiedIsBounded X }
+{}
+
+/// The notes of each kind that are read stand by rising address.
+pub fn notes_stand_by_address()
+    ensures { NotesStandByAddress }
 {}

@@ -18,7 +18,9 @@ mod way;
 pub use certificate::{Bound, Certificate, Standing};
 pub use checking::checked;
 pub use instruction_ways::ways;
-pub use laws::{certified_is_bounded, found_is_decoded, states_are_most, turn_is_paid};
+pub use laws::{
+    certified_is_bounded, found_is_decoded, notes_stand_by_address, states_are_most, turn_is_paid,
+};
 pub use looking::{found_at, is_end};
 pub use notes::{Goes, Loop, Moved, Notes};
 pub use reading::{NotesFault, address};

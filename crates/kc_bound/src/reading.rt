@@ -1,5 +1,5 @@
 // Notes as their author writes them, a line each.
-ghost use Rattle.std.specs.Prelude.{◌≡◌, ◌≤◌, ◌<◌, ◌==◌, ◌∷◌, length, map, nat_lt, vec_len, IfOk, IfSome, OnOk, Some};
+ghost use Rattle.std.specs.Prelude.{◌≡◌, ◌≤◌, ◌<◌, ◌==◌, ◌++◌, [], ◌∷◌, length, map, nat_lt, nat_le, IfOk, IfSome, OnOk};
 ghost use Rattle.std.specs.List.{list_any, take_while};
 ghost use Rattle.std.specs.Option.{option_map};
 ghost use Rattle.kc_base.specs.Limits.{file_limit};

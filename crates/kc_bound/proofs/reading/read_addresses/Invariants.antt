@@ -4,9 +4,9 @@ use Rattle.kc_bound.specs.Reading.{address_of, addresses_of}
 use Rattle.kc_bound.proofs.ReadingLemmas.{behind}
 use Rattle.kc_bound.proofs.reading.read_addresses.Given as goal
 
-abbrev pub invariant-loop : goal.invariant-loop
-invariant-loop l =
+abbrev pub invariant-loop-word : goal.invariant-loop-word
+invariant-loop-word l =
     behind l.addresses.items (addresses_of (address_of l.names l.lines) (words_in l.rest)) ≡ addresses_of (address_of l.names l.lines) (words_in l.text)
 
-abbrev pub decreases-loop : goal.decreases-loop
-decreases-loop l = length l.rest
+abbrev pub decreases-loop-word : goal.decreases-loop-word
+decreases-loop-word l = length l.rest

@@ -2,7 +2,7 @@ use Rattle.std.proofs.Common.{◌≡◌, ◌+◌, ◌≤◌, length}
 use Rattle.kc_base.specs.TextLines.{text_lines}
 use Rattle.kc_addresses.specs.Lines.{read_from}
 use Rattle.kc_bound.specs.Reading.{address_of, notes_of, notes_read, with_line}
-use Rattle.kc_bound.proofs.reading.Notes.read.Given as goal
+use Rattle.kc_bound.proofs.notes.Notes.read.Given as goal
 
 abbrev pub invariant-loop-rest : goal.invariant-loop-rest
 invariant-loop-rest l =
