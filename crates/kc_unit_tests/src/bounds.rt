@@ -178,10 +178,8 @@ fn word_of(why: Why) -> &'static str {
 /// Whether these are the refusals, in order.
 fn are_refused(refused: &[Refusal], addresses: &[(u16, &str)]) -> bool {
     refused.len() == addresses.len()
-        && refused
-            .iter()
-            .zip(addresses)
-            .all(|(one, (at, word))| one.at == *at && word_of(one.why) == *word)
+        && refused.iter().zip(addresses).all(|(one, (at, word))| one.at == *at
+            && word_of(one.why) == *word)
 }
 
 /// From where, whether with the notes, and what is refused.
