@@ -1,5 +1,5 @@
 -- Refusals one by one, joined, and by rising address.
-use Rattle.std.proofs.Common.{◌≡◌, ℕ, ◌+◌, ◌*◌, ◌<◌, ◌≤◌, ◌++◌, Bool, true, false, not, nat_eq, List, [], ◌∷◌, map, length, slice_index_or, Contains, refl, subst, sym, ap, ◌∙◌, arith}
+use Rattle.std.proofs.Common.{◌≡◌, ℕ, ◌+◌, ◌<◌, ◌≤◌, ◌++◌, Bool, false, not, nat_eq, List, [], ◌∷◌, map, length, slice_index_or, Contains, refl, subst, sym, ap, ◌∙◌, arith}
 use Rattle.std.specs.List.{All, AllPairs}
 use Rattle.std.specs.List.Sorted.{IsPermutation}
 use Rattle.std.proofs.lemmas.List.{length-map, length_push, get_or_default}

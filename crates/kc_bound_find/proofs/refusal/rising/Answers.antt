@@ -1,5 +1,3 @@
-use Rattle.std.specs.List.Sorted.{IsPermutation}
-use Rattle.std.proofs.Common.{IfOk, rules}
 use Rattle.std.proofs.lemmas.Result.{IfOk-weaker}
 use Rattle.kc_bound_find.specs.Refusals.{StandRising}
 use Rattle.kc_bound_find.proofs.Refusing.{as_sorted}
