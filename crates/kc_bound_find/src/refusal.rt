@@ -1,5 +1,4 @@
-ghost use Rattle.std.specs.Prelude.{◌≡◌, ◌+◌, ◌<◌, ◌^◌, ◌++◌, length, map, IfOk, OnOk, Contains};
-ghost use Rattle.std.specs.List.{All, AllPairs};
+ghost use Rattle.std.specs.Prelude.{◌≡◌, ◌<◌, ◌^◌, ◌++◌, map, IfOk, OnOk};
 ghost use Rattle.kc_bound_find.specs.Refusals as spec;
 
 use kc_base::NoMemory;
@@ -71,9 +70,7 @@ pub(crate) fn refuse_all(
 
 // Of refusals by rising address each once.
 fn each_once(alloc: Global, refused: &[Refusal]) -> Result<Vec<Refusal>, NoMemory>
-    ensures some { IfOk result (λ found. 0 < length refused.now → 0 < length found.items) }
-    ensures rising { IfOk result (λ found. AllPairs spec.IsBefore found.items) }
-    ensures among { IfOk result (λ found. All (Contains refused.now) found.items) }
+    ensures { IfOk result (λ found. spec.StandRising refused.now found.items) }
 {
     let mut found = Vec::new(alloc);
     let mut next: u32 = 0;

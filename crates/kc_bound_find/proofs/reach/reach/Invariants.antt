@@ -1,4 +1,3 @@
-use Rattle.std.proofs.Common.{ℕ}
 use Rattle.std.specs.List.{All}
 use Rattle.kc_bound_find.specs.Refusals.{IsRefusal}
 use Rattle.kc_bound_find.proofs.reach.reach.Given as goal
