@@ -6,7 +6,6 @@ use Rattle.std.specs.Result.{IsOk}
 use Rattle.std.specs.Option.{option_to_list}
 use Rattle.kc_base.specs.Held.{Holding, Reported}
 use Rattle.kc_base.specs.Causes.{Rose}
-use Rattle.kc_base.specs.TextLines.{text_lines}
 use Rattle.kc_kit_messages.specs.Codes.{all_codes}
 use Rattle.kc_kit_messages.specs.Meanings.{Said, is_among, said_of, IsAnswer}
 use Rattle.kc_kit_messages.proofs.Distinct.{meaning-is}
@@ -75,17 +74,16 @@ use Rattle.kc_kit_answer.specs.Assemble.{AreListings, AssembleAnswer, IsAssembla
 use Rattle.kc_kit_running.specs.Scripted.{debugged_by, debugged_in_lives, debugger_response, end_in}
 use Rattle.kc_kit_answer.specs.Debug.{debug_response, DebugAnswer, IsDebuggable}
 use Rattle.kc_kit_answer.specs.Dump.{Dumped, DumpAnswer, IsDumpable}
-use Rattle.kc_kit_answer.specs.Check.{Checked, CheckAnswer, CheckTexts, TraceThen, AreCheckable, IsTraceHeld, CheckAccepted}
-use Rattle.kc_kit_verdict.specs.Runs.{count_lives, broken_in, status_by, verdict_response}
+use Rattle.kc_kit_answer.specs.Check.{Checked, CheckAnswer, CheckTexts, TraceThen, AreCheckable, IsTraceHeld}
+use Rattle.kc_kit_verdict.specs.Runs.{broken_in, status_by}
 use Rattle.kc_rules.specs.declared.rule.Rule.{Rule}
 use Rattle.kc_rules.specs.Lines.{Book, book_of}
 use Rattle.kc_events.specs.declared.line.Line.{Line}
 use Rattle.kc_events.specs.Lives.{lives_of}
 use Rattle.kc_events.proofs.OneReading.{one_reading}
-use Rattle.kc_life.specs.Lives.{Life}
 use Rattle.kc_kit_inputs.specs.Responses.{unkept_response}
 use Rattle.kc_kit_inputs.specs.Rules.{by_book, rules_of}
-use Rattle.kc_kit_inputs.specs.Runs.{IsRunText, RunIs}
+use Rattle.kc_kit_inputs.specs.Runs.{IsRunText}
 use Rattle.kc_kit_answer.specs.Explain.{explained_by, explained}
 use Rattle.kc_kit_running.specs.Counted.{summary_of}
 use Rattle.kc_kit_answer.specs.Generate.{made_names, made_texts, made_given}

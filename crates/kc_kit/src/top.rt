@@ -16,19 +16,18 @@ ghost use Rattle.kc_kit_words.specs.Words.{command_of};
 ghost use Rattle.kc_kit_words.specs.Asked.{asked, IsWithin};
 ghost use Rattle.kc_kit_words.specs.Commands.{names_read, names_written};
 ghost use Rattle.kc_kit_answer.specs.Answer.{MayAnswerBy, IsAccepted, IsUsage, EndsAccepted, StaysBut};
-ghost use Rattle.kc_kit_answer.specs.Jobs.{IsDoable, IsOf, IsReady};
+ghost use Rattle.kc_kit_answer.specs.Jobs.{IsOf, IsReady};
 ghost use Rattle.kc_kit_answer.specs.Lines.{usage_line};
 
 use kc_base::{Files, Sink};
 use kc_kit_answer::{
     Job, VERSION, explain_code, perform, prepare_assemble, prepare_bound, prepare_check,
-    prepare_debug,
-    prepare_dump, prepare_generate, prepare_hex, prepare_link, prepare_list, prepare_pack,
-    prepare_profile, prepare_profile_hex, prepare_run, report_help, report_help_on,
+    prepare_debug, prepare_dump, prepare_generate, prepare_hex, prepare_link, prepare_list,
+    prepare_pack, prepare_profile, prepare_profile_hex, prepare_run, report_help, report_help_on,
 };
 use kc_kit_files::{Ended, Refusal, Status, refuse, say};
 use kc_kit_streams::Streams;
-use kc_kit_words::{Command, put_usage, read_words};
+use kc_kit_words::{Command, Generate, put_usage, read_words};
 use kc_trace::TraceOut;
 use std::alloc::Global;
 
@@ -137,60 +136,39 @@ fn done<'a, F: Streams, S: Sink>(
         Command::Help => Ended::by(report_help(alloc, out)),
         Command::HelpOn(help) => Ended::by(report_help_on(alloc, help.verb, out)),
         Command::Version => Ended::by(say(out, VERSION.as_bytes(), Status::Done)),
-        Command::Run(run) => {
-            let prepared = prepare_run(alloc, run, files);
-            finish(alloc, prepared, files, out)
-        }
-        Command::Profile(run) => {
-            let prepared = prepare_profile(alloc, run, files);
-            finish(alloc, prepared, files, out)
-        }
+        Command::Run(run) => finish(alloc, prepare_run(alloc, run, files), files, out),
+        Command::Profile(run) => finish(alloc, prepare_profile(alloc, run, files), files, out),
         Command::Assemble(assemble) => {
-            let prepared = prepare_assemble(alloc, assemble, files);
-            finish(alloc, prepared, files, out)
+            finish(alloc, prepare_assemble(alloc, assemble, files), files, out)
         }
-        Command::Pack(pack) => {
-            let prepared = prepare_pack(alloc, pack, files);
-            finish(alloc, prepared, files, out)
-        }
-        Command::Link(link) => {
-            let prepared = prepare_link(alloc, link, files);
-            finish(alloc, prepared, files, out)
-        }
-        Command::RunHex(run) => {
-            let prepared = prepare_hex(alloc, run, files);
-            finish(alloc, prepared, files, out)
-        }
+        Command::Pack(pack) => finish(alloc, prepare_pack(alloc, pack, files), files, out),
+        Command::Link(link) => finish(alloc, prepare_link(alloc, link, files), files, out),
+        Command::RunHex(run) => finish(alloc, prepare_hex(alloc, run, files), files, out),
         Command::ProfileHex(run) => {
-            let prepared = prepare_profile_hex(alloc, run, files);
-            finish(alloc, prepared, files, out)
+            finish(alloc, prepare_profile_hex(alloc, run, files), files, out)
         }
-        Command::List(list) => {
-            let prepared = prepare_list(alloc, list, files);
-            finish(alloc, prepared, files, out)
-        }
-        Command::Debug(debug) => {
-            let prepared = prepare_debug(alloc, debug, files);
-            finish(alloc, prepared, files, out)
-        }
-        Command::Generate(generate) => {
-            let prepared = prepare_generate(alloc, generate.number);
-            finish(alloc, prepared, files, out)
-        }
-        Command::Dump(dump) => {
-            let prepared = prepare_dump(alloc, dump, files);
-            finish(alloc, prepared, files, out)
-        }
-        Command::Check(check) => {
-            let prepared = prepare_check(alloc, check, files);
-            finish(alloc, prepared, files, out)
-        }
-        Command::Bound(bound) => {
-            let prepared = prepare_bound(alloc, bound, files);
-            finish(alloc, prepared, files, out)
-        }
+        Command::List(list) => finish(alloc, prepare_list(alloc, list, files), files, out),
+        Command::Debug(debug) => finish(alloc, prepare_debug(alloc, debug, files), files, out),
+        Command::Generate(generate) => generated(alloc, generate, files, out),
+        Command::Dump(dump) => finish(alloc, prepare_dump(alloc, dump, files), files, out),
+        Command::Check(check) => finish(alloc, prepare_check(alloc, check, files), files, out),
+        Command::Bound(bound) => finish(alloc, prepare_bound(alloc, bound, files), files, out),
         Command::Explain(explain) => explain_code(alloc, explain.code, out),
     }
+}
+
+// Does the command that makes an input of its number: it reads no file.
+fn generated<F: Files, S: Sink>(
+    alloc: Global,
+    generate: &Generate,
+    files: &mut F,
+    out: &mut TraceOut<S>,
+) -> Ended<'static>
+    requires { out.old.failed ≡ false }
+    ensures { Ends F.held F.write_faults S.written S.faults (MayAnswerBy IsFaultDiagnostic F.held F.read_faults (Some (asked (Command.Generate generate.now))) files.old files.new)
+        files.old out.old.sink result files.new out.new.sink }
+{
+    finish(alloc, prepare_generate(alloc, generate.number), files, out)
 }
 
 // Does what is prepared, or prints its refusal.
