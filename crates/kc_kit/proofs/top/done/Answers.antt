@@ -102,8 +102,8 @@ returns-in-Check g c =
 
 pub returns-in-Bound : goal.returns-in-Bound
 returns-in-Bound g c =
-    finished g.F.Files.held g.F.Files.read_faults g.F.Files.write_faults c.args.command.now _ c.args.files.now c.prepare_bound-prepared.new.files c.finish-in-Bound.new.files c.prepare_bound-prepared.result _ _ _
-    c.in-Bound.is c.prepare_bound-prepared.ensures c.finish-in-Bound.ensures.answer c.finish-in-Bound.ensures.no_read
+    finished g.F.Files.held g.F.Files.read_faults g.F.Files.write_faults c.args.command.now _ c.args.files.now c.prepare_bound.new.files c.finish-in-Bound.new.files c.prepare_bound.result _ _ _
+    c.in-Bound.is c.prepare_bound.ensures c.finish-in-Bound.ensures.answer c.finish-in-Bound.ensures.no_read
 
 pub returns-in-Explain : goal.returns-in-Explain
 returns-in-Explain g c =
