@@ -16,9 +16,7 @@ mod scripts;
 mod sources;
 mod stimuli;
 
-pub use annotations::{
-    AnnotationFiles, Annotations, address, annotation_files, annotations_in,
-};
+pub use annotations::{AnnotationFiles, Annotations, address, annotation_files, annotations_in};
 pub use driving::{Driving, Given, driving_in, given_for};
 pub use hex_image::image_of;
 pub use library::{read_library, take_members};

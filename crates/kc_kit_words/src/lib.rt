@@ -15,8 +15,8 @@ mod values;
 mod words;
 
 pub use command::{
-    Assemble, Behind, Beside, Bound, Check, Command, Debug, Dump, Explain, Generate, Link, List, Pack,
-    Profile, ProfileHex, Run, RunHex,
+    Assemble, Behind, Beside, Bound, Check, Command, Debug, Dump, Explain, Generate, Link, List,
+    Pack, Profile, ProfileHex, Run, RunHex,
 };
 pub use extent::Extent;
 pub use inputs::{Input, Inputs, Role};

@@ -9,8 +9,8 @@ ghost use Rattle.kc_kit_words.specs.Asked.{asked, behind_in, beside_in, AreLinka
 ghost use Rattle.kc_kit_words.specs.Inputs.{inputs_in};
 
 use crate::command::{
-    Assemble, Behind, Beside, Bound, Check, Command, Debug, Dump, Explain, Generate, HelpOn, Link, List,
-    Pack, Profile, ProfileHex, Run, RunHex,
+    Assemble, Behind, Beside, Bound, Check, Command, Debug, Dump, Explain, Generate, HelpOn, Link,
+    List, Pack, Profile, ProfileHex, Run, RunHex,
 };
 use crate::extent::Extent;
 use crate::inputs::Inputs;
