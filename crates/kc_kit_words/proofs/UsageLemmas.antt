@@ -14,7 +14,7 @@ use Rattle.kc_kit_words.specs.declared.usage.Wrong.TheVariants as wrong
 use Rattle.kc_kit_words.specs.Number.{number_of}
 use Rattle.kc_kit_words.specs.Options.{form_of, has_form, value_of, are_options, inputs_of, clock_in, extent_in, lives_in}
 use Rattle.kc_kit_words.specs.Values.{is_name, is_trace_name, is_address, range_of}
-use Rattle.kc_kit_words.specs.Usage.{wrong_text, no_command, bad_value, bad_number, bad_address, twice, lacks, wrong_value, wrong_last, wrong_option, lacks_out, wrong_extent, wrong_listing, wrong_placing, wrong_outputs, wrong_name, wrong_files, wrong_file, wrong_trace, wrong_dump, wrong_pair, wrong_range, wrong_list, wrong_number, wrong_address, wrong_bound, wrong_word, wrong_more, wrong_by, wrong_with, wrong_writes, overwrites, plain_usage_of, wrong_check, wrong_run_options}
+use Rattle.kc_kit_words.specs.Usage.{wrong_text, no_command, bad_value, bad_number, bad_address, twice, lacks, wrong_value, wrong_last, wrong_option, lacks_out, wrong_extent, wrong_listing, wrong_placing, wrong_outputs, wrong_name, wrong_files, wrong_file, wrong_trace, wrong_dump, wrong_pair, wrong_range, wrong_list, wrong_number, wrong_bound, wrong_word, wrong_more, wrong_by, wrong_with, wrong_writes, overwrites, plain_usage_of, wrong_check, wrong_run_options}
 use Rattle.kc_kit_words.specs.UsageLaw.{WrongWhereNoCommand}
 use Rattle.kc_kit_words.specs.Commands.{Command, Helps, ReportsVersion, Runs, Profiles, Assembles, Packs, Links, ProfilesHex, Lists, Debugs, Generates, overwritten, sparing, Checks, Bounds}
 use Rattle.kc_kit_words.specs.Words.{count_files, files_of, options_of, are_files, placing_of, is_other, are_apart, beside_of, run_so, run_by, assembles_by, assemble_by, pack_by, links_by, link_by, hex_so, hex_by, lists_by, list_by, debug_by, generate_by, dumps_by, dump_by, explain_by, alone, command_by, help_on, plain_command_of, check_by, bound_by, behind_of, differ}
