@@ -21,7 +21,7 @@ use Rattle.kc_kit_inputs.specs.Hex.{by_image, hex_of}
 use Rattle.kc_kit_inputs.specs.Lines.{coded}
 use Rattle.kc_kit_inputs.specs.Responses.{line_response}
 use Rattle.kc_kit_inputs.specs.Scripts.{by_lines, lines_of}
-use Rattle.kc_kit_answer.specs.Accepting.{Accepting, IsOneText}
+use Rattle.kc_kit_answer.specs.Accepting.{Accepting}
 use Rattle.kc_kit_answer.specs.Answer.{OneText}
 use Rattle.kc_kit_answer.specs.Bound.{unknown_diagnostic, by_address, place_of, maybe_end, end_of, report_status, with_end, IsReported, PassesAnswer, BoundAnswer, are_addresses, AreBoundable}
 use Rattle.kc_kit_answer.specs.Jobs.{IsPrepared}

@@ -1,6 +1,6 @@
 -- The command that bounds the states of a routine (this kit's own). What it answers is no function of what the files hold: each
 -- certificate that shows a bound may be reported, and where none is found, lines of refusals.
-use Rattle.std.specs.Prelude.{◌≡◌, ℕ, Bool, true, false, ◌&&◌, is_some, List, [], ◌∷◌, ◌++◌, codes, Option, Some, None, Result, Ok, Err}
+use Rattle.std.specs.Prelude.{◌≡◌, ℕ, Bool, true, false, ◌&&◌, is_some, List, ◌++◌, codes, Option, Some, None, Result, Ok, Err}
 use Rattle.std.specs.Option.{option_map_or, option_to_list}
 use Rattle.std.specs.Result.{IsOk}
 use Rattle.kc_hex.specs.Records.{image_of}

@@ -388,7 +388,7 @@ module _
 -- ---- the whole
 
 pub one_answer : Laws → OneAnswer
-one_answer laws = answers AnyDiagnostic (λ r s. silent r ≡ silent s) (λ r. refl) (λ name text line code n m h k. refl) laws
+one_answer laws = λ command contents r s one h k. answers AnyDiagnostic (λ r s. silent r ≡ silent s) (λ r. refl) (λ name text line code n m h k. refl) laws command contents one r s h k
 
 one_fault_diagnostic : OneOrigin → (name text : List ℕ) (line code : ℕ) (n m : List ℕ) → IsFaultDiagnostic name text line code n → IsFaultDiagnostic name text line code m → source_response name line code n ≡ source_response name line code m
 one_fault_diagnostic law name text line code n m h k =
@@ -396,4 +396,4 @@ one_fault_diagnostic law name text line code n m h k =
     ap (source_response name line code) (h.2 ∙ (ap (λ (c : Option ℕ). lead ++ body_diagnostic name text c) (law text line code h.0 k.0 h.1 k.1) ∙ sym k.2))
 
 pub one_diagnostic : Laws → OneOrigin → OneDiagnostic
-one_diagnostic laws law = answers IsFaultDiagnostic (λ r s. r ≡ s) (λ r. refl) (one_fault_diagnostic law) laws
+one_diagnostic laws law = λ command contents r s one h k. answers IsFaultDiagnostic (λ r s. r ≡ s) (λ r. refl) (one_fault_diagnostic law) laws command contents one r s h k
