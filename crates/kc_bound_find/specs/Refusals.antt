@@ -56,11 +56,11 @@ IsBefore r s = order_of r < order_of s
 abbrev pub refusal_for : Why → ℕ → Refusal
 refusal_for why a = record { at = a; why = why }
 
--- some of the refusals that are given, if there are any, by rising address
+-- the refusals that are given, by rising address, each once
 pub record StandRising (given refusals : List Refusal) : Type 0 where
-  pub some : 0 < length given → 0 < length refusals
   pub rising : AllPairs IsBefore refusals
   pub among : All (Contains given) refusals
+  pub whole : All (Contains refusals) given
 
 -- one refusal or more, by rising address, each once
 pub record AreRefusals (image : List ℕ) (notes : Notes) (refusals : List Refusal) : Type 0 where

@@ -1,4 +1,5 @@
 ghost use Rattle.std.specs.Prelude.{◌≡◌, ◌<◌, ◌^◌, ◌++◌, map, IfOk, OnOk};
+ghost use Rattle.std.specs.List.Sorted.{IsNonDecreasingBy};
 ghost use Rattle.kc_bound_find.specs.Refusals as spec;
 
 use kc_base::NoMemory;
@@ -70,6 +71,7 @@ pub(crate) fn refuse_all(
 
 // Of refusals by rising address each once.
 fn each_once(alloc: Global, refused: &[Refusal]) -> Result<Vec<Refusal>, NoMemory>
+    requires { IsNonDecreasingBy spec.order_of refused.now }
     ensures { IfOk result (λ found. spec.StandRising refused.now found.items) }
 {
     let mut found = Vec::new(alloc);

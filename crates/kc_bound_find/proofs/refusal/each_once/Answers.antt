@@ -13,8 +13,8 @@ loop-refusal-preserved c =
           pushed c.args.refused.now c.loop-refusal.refusal-index c.loop-refusal.next c.order_of-order.result c.if-next-order.next c.loop-refusal.found.items c.if-next-order.found.items _
           c.loop-refusal.invariant c.order_of-order.ensures.value w.if-next-order.true c.loop-refusal-test.true w.next-is (ap (λ v. v.items) w.found-is ∙ w.in_ok-push.ensures.items)
       | else-next-order w ↦
-          passed c.args.refused.now c.loop-refusal.refusal-index c.loop-refusal.next c.order_of-order.result c.if-next-order.next c.loop-refusal.found.items c.if-next-order.found.items
-          c.loop-refusal.invariant w.if-next-order.false w.next-is (ap (λ v. v.items) w.found-is)
+          passed c.args.refused.now c.loop-refusal.refusal-index c.loop-refusal.next c.order_of-order.result c.if-next-order.next c.loop-refusal.found.items c.if-next-order.found.items _
+          c.requires c.loop-refusal.invariant c.order_of-order.ensures.value w.if-next-order.false c.loop-refusal-test.true w.next-is (ap (λ v. v.items) w.found-is)
     ]
 
 pub returns : goal.returns
