@@ -17,8 +17,8 @@ use Rattle.kc_expr.specs.Tree.{Tree, Number, Chars, Name, Here, One, Two}
 use Rattle.kc_source_statement.specs.Trees.{ItemTree}
 use Rattle.kc_source_statement.specs.Trees as trees
 use Rattle.kc_obj_module.specs.Numbers.{Bases, number, first_part, second_part}
-use Rattle.kc_asm_bytes.specs.declared.relocatable_byte.RelocatableByte.TheVariants.{Plain}
-use Rattle.kc_asm_bytes.specs.Filling.{address, fill, filled}
+use Rattle.kc_asm_encode.specs.declared.relocatable_byte.RelocatableByte.TheVariants.{Plain}
+use Rattle.kc_asm_encode.specs.Filling.{address, fill, filled}
 use Rattle.kc_asm_encode.specs.Values.{or_zero}
 use Rattle.kc_asm_encode.specs.RelocatableBytes.{byte_of, word_of}
 use Rattle.kc_asm_encode.specs.Said.{AreSound}

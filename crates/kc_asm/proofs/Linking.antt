@@ -9,9 +9,9 @@ use Rattle.kc_asm_symbols.specs.Located.{Located, first_segment, value_at}
 use Rattle.kc_asm_symbols.specs.Meanings.{meaning}
 use Rattle.kc_obj_module.specs.Object.{Object}
 use Rattle.kc_obj_module.specs.Numbers.{Bases}
-use Rattle.kc_asm_bytes.specs.declared.relocatable_byte.RelocatableByte.{RelocatableByte}
-use Rattle.kc_asm_bytes.specs.declared.relocatable_byte.RelocatableByte.TheVariants.{Plain}
-use Rattle.kc_asm_bytes.specs.Filling.{fill}
+use Rattle.kc_asm_encode.specs.declared.relocatable_byte.RelocatableByte.{RelocatableByte}
+use Rattle.kc_asm_encode.specs.declared.relocatable_byte.RelocatableByte.TheVariants.{Plain}
+use Rattle.kc_asm_encode.specs.Filling.{fill}
 use Rattle.kc_asm_section.specs.declared.unlinked.UnlinkedModule.{UnlinkedModule}
 use Rattle.kc_asm_section.specs.Section.{Section}
 use Rattle.kc_asm_section.specs.UnlinkedModules.{IsUnlinkedModule}

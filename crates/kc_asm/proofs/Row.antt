@@ -9,7 +9,7 @@ use Rattle.kc_branch.specs.Forms.{places, raised, start_forms, forms}
 use Rattle.kc_expr.specs.Meaning.{answer_by}
 use Rattle.kc_asm_symbols.specs.Located.{located_from}
 use Rattle.kc_obj_module.specs.Numbers.{distance, number, fits}
-use Rattle.kc_asm_bytes.specs.Relocating.{depends, misfit}
+use Rattle.kc_asm_encode.specs.Relocating.{depends, misfit}
 use Rattle.kc_asm_encode.specs.Branches.{branch_kind}
 use Rattle.kc_asm_encode.specs.Opcodes.{opcode_of}
 use Rattle.kc_asm_encode.specs.Instructions.{instruction, instructions}

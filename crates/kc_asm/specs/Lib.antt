@@ -1,3 +1,5 @@
+pub mod Writing
+pub mod Giving
 pub mod Assembled
 pub mod Characters
 pub mod Saying

@@ -9,7 +9,7 @@ use Rattle.kc_source_statement.specs.Trees.{ItemTree, ActionTree, Define, Operat
 use Rattle.kc_source_statement.specs.Trees as trees
 use Rattle.kc_asm_symbols.specs.Located.{Located}
 use Rattle.kc_obj_module.specs.Numbers.{Bases}
-use Rattle.kc_asm_bytes.specs.Filling.{address}
+use Rattle.kc_asm_encode.specs.Filling.{address}
 use Rattle.kc_branch.specs.declared.piece.Form.{Form}
 use Rattle.kc_asm_encode.specs.Values.{or_zero}
 use Rattle.kc_asm_encode.specs.Instructions.{instructions}

@@ -6,11 +6,11 @@ ghost use Rattle.kc_asm_symbols.specs.Reported.{AreReadWell};
 ghost use Rattle.kc_asm_check.specs.Checking.{standing};
 ghost use Rattle.kc_asm.specs.Assembled as spec;
 
+use crate::unlinked;
 use kc_asm_check::check;
 use kc_asm_layout::{layout, statement_sizes};
 use kc_asm_section::module_of;
 use kc_asm_symbols::{Names, externals, externals_are_few};
-use kc_asm_unlinked::unlinked;
 use kc_asm_unlinked_laws::{pieces_are_few, unlinked_modules_are_unlinked};
 use kc_base::NoMemory;
 use kc_lex::{LineFault, SourceFault, lines};

@@ -5,10 +5,10 @@ use Rattle.std.specs.Option.{option_to_list}
 use Rattle.std.proofs.lemmas.List.{drop_all}
 use Rattle.kc_expr.specs.declared.values.Value.{Value}
 use Rattle.kc_obj_module.specs.Numbers.{is_distance, number, distance, reach, fits}
-use Rattle.kc_asm_bytes.specs.declared.relocatable_byte.RelocatableByte.{RelocatableByte}
-use Rattle.kc_asm_bytes.specs.declared.relocatable_byte.RelocatableByte.TheVariants.{Plain, First, Second}
-use Rattle.kc_asm_bytes.specs.Filling.{address as address_of}
-use Rattle.kc_asm_bytes.specs.Relocating.{counts, depends, is_piece, misfit, misfit_code, no_bases}
+use Rattle.kc_asm_encode.specs.declared.relocatable_byte.RelocatableByte.{RelocatableByte}
+use Rattle.kc_asm_encode.specs.declared.relocatable_byte.RelocatableByte.TheVariants.{Plain, First, Second}
+use Rattle.kc_asm_encode.specs.Filling.{address as address_of}
+use Rattle.kc_asm_encode.specs.Relocating.{counts, depends, is_piece, misfit, misfit_code, no_bases}
 use Rattle.kc_lex.specs.Codes.{lesser_number}
 use Rattle.kc_asm_emit.specs.Faults.{least}
 use Rattle.kc_asm_emit.proofs.FaultLemmas.{lesser_assoc, lesser_none, least_append, least_option}

@@ -16,8 +16,8 @@ use Rattle.kc_source_statement.specs.Trees.{ArgTree, ActionTree, Module, Cseg, D
 use Rattle.kc_source_statement.specs.Trees as trees
 use Rattle.kc_asm_symbols.specs.declared.segments.Segment.{Segment}
 use Rattle.kc_asm_symbols.specs.Located.{is_absolute}
-use Rattle.kc_asm_bytes.specs.declared.relocatable_byte.RelocatableByte.{RelocatableByte}
-use Rattle.kc_asm_bytes.specs.Relocating.{misfit}
+use Rattle.kc_asm_encode.specs.declared.relocatable_byte.RelocatableByte.{RelocatableByte}
+use Rattle.kc_asm_encode.specs.Relocating.{misfit}
 use Rattle.kc_asm_encode.specs.Values.{is_external}
 use Rattle.kc_asm_emit.specs.Arguments.{Look, value_of, fixed_of}
 use Rattle.kc_asm_emit.specs.Content.{Content, RelocatableBytes}

@@ -2,15 +2,15 @@
 
 ghost use Rattle.std.specs.Prelude.{◌≡◌, ◌%◌};
 ghost use Rattle.kc_source_statement.specs.Trees.{action_tree};
-ghost use Rattle.kc_asm_bytes.specs.Relocating.{is_piece, misfit as misfit_at};
+ghost use Rattle.kc_asm_encode.specs.Relocating.{is_piece, misfit as misfit_at};
 ghost use Rattle.kc_asm_emit.specs.Faults.{least};
 ghost use Rattle.kc_asm_emit.specs.Seen.{seen};
 ghost use Rattle.kc_asm_check.specs.Codes as spec;
 
 use crate::branches::checks_jumps;
 use crate::codes::when;
-use kc_asm_bytes::{RelocatableByte, misfit};
 use kc_asm_emit::Content;
+use kc_asm_encode::{RelocatableByte, misfit};
 use kc_asm_layout::Location;
 use kc_asm_symbols::Segment;
 use kc_expr::{Base, Scope};

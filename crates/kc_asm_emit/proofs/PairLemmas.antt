@@ -6,8 +6,8 @@ use Rattle.kc_expr.specs.declared.values.Value.{Value}
 use Rattle.kc_expr.specs.Tree.{Tree, Number, Chars, Name, Here, One, Two}
 use Rattle.kc_source_statement.specs.Trees.{ItemTree, ActionTree}
 use Rattle.kc_source_statement.specs.Trees as trees
-use Rattle.kc_asm_bytes.specs.declared.relocatable_byte.RelocatableByte.{RelocatableByte}
-use Rattle.kc_asm_bytes.specs.declared.relocatable_byte.RelocatableByte.TheVariants.{Plain}
+use Rattle.kc_asm_encode.specs.declared.relocatable_byte.RelocatableByte.{RelocatableByte}
+use Rattle.kc_asm_encode.specs.declared.relocatable_byte.RelocatableByte.TheVariants.{Plain}
 use Rattle.kc_branch.specs.declared.piece.Form.{Form}
 use Rattle.kc_asm_encode.specs.Values.{or_zero}
 use Rattle.kc_asm_encode.specs.RelocatableBytes.{byte_of, word_of}

@@ -11,8 +11,8 @@ use Rattle.kc_expr.specs.Alike.{AreAlikeValues, AreAlike, AllAlike}
 use Rattle.kc_expr.proofs.AlikeLemmas.{expressions_alike}
 use Rattle.kc_source_statement.specs.Trees.{ItemTree, ArgTree, ActionTree}
 use Rattle.kc_source_statement.specs.Trees as trees
-use Rattle.kc_asm_bytes.specs.declared.relocatable_byte.RelocatableByte.{RelocatableByte}
-use Rattle.kc_asm_bytes.specs.declared.relocatable_byte.RelocatableByte.TheVariants.{Plain}
+use Rattle.kc_asm_encode.specs.declared.relocatable_byte.RelocatableByte.{RelocatableByte}
+use Rattle.kc_asm_encode.specs.declared.relocatable_byte.RelocatableByte.TheVariants.{Plain}
 use Rattle.kc_asm_encode.specs.declared.argument.Argument.TheVariants as arg
 use Rattle.kc_branch.specs.declared.piece.Form.{Form}
 use Rattle.kc_asm_encode.specs.Instructions.{instructions}

@@ -1,12 +1,12 @@
 ghost use Rattle.std.specs.Prelude.{◌≡◌, ◌++◌, map, OnOk, IfOk};
 ghost use Rattle.kc_expr.specs.Tree.{tree_of};
 ghost use Rattle.kc_source_statement.specs.Trees.{item_tree};
-ghost use Rattle.kc_asm_bytes.specs.declared.relocatable_byte.RelocatableByte.TheVariants as relocatable_bytes;
+ghost use Rattle.kc_asm_encode.specs.declared.relocatable_byte.RelocatableByte.TheVariants as relocatable_bytes;
 ghost use Rattle.kc_asm_encode.specs.RelocatableBytes.{word_of};
 ghost use Rattle.kc_asm_emit.specs.Content as content;
 
 use crate::values::value_or_zero;
-use kc_asm_bytes::RelocatableByte;
+use kc_asm_encode::RelocatableByte;
 use kc_base::NoMemory;
 use kc_expr::{Expr, Scope, Value};
 use kc_source_statement::Item;

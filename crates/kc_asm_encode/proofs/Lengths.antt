@@ -10,8 +10,8 @@ use Rattle.kc_isa.specs.Layout.{layout_of}
 use Rattle.kc_isa.specs.Formed.{is_byte}
 use Rattle.kc_code.specs.Spelling.{prefix}
 use Rattle.kc_lex.specs.Instructions.{least}
-use Rattle.kc_asm_bytes.specs.declared.relocatable_byte.RelocatableByte.{RelocatableByte}
-use Rattle.kc_asm_bytes.specs.declared.relocatable_byte.RelocatableByte.TheVariants.{Plain}
+use Rattle.kc_asm_encode.specs.declared.relocatable_byte.RelocatableByte.{RelocatableByte}
+use Rattle.kc_asm_encode.specs.declared.relocatable_byte.RelocatableByte.TheVariants.{Plain}
 use Rattle.kc_asm_encode.specs.declared.argument.Argument.{Argument}
 use Rattle.kc_branch.specs.declared.piece.Form.{Form}
 use Rattle.kc_branch.specs.declared.piece.Form.TheVariants.{First, Second, Third}

@@ -17,10 +17,10 @@ use Rattle.kc_isa.specs.Formed.{is_byte}
 use Rattle.kc_code.specs.Spelling.{prefix}
 use Rattle.kc_lex.specs.Instructions.{least}
 use Rattle.kc_obj_module.specs.Numbers.{number, reach, first_part}
-use Rattle.kc_asm_bytes.specs.declared.relocatable_byte.RelocatableByte.{RelocatableByte}
-use Rattle.kc_asm_bytes.specs.declared.relocatable_byte.RelocatableByte.TheVariants.{Plain, First}
-use Rattle.kc_asm_bytes.specs.Filling.{address}
-use Rattle.kc_asm_bytes.specs.Relocating.{no_bases, HasRoom}
+use Rattle.kc_asm_encode.specs.declared.relocatable_byte.RelocatableByte.{RelocatableByte}
+use Rattle.kc_asm_encode.specs.declared.relocatable_byte.RelocatableByte.TheVariants.{Plain, First}
+use Rattle.kc_asm_encode.specs.Filling.{address}
+use Rattle.kc_asm_encode.specs.Relocating.{no_bases, HasRoom}
 use Rattle.kc_asm_encode.specs.declared.argument.Argument.{Argument}
 use Rattle.kc_branch.specs.declared.piece.Form.{Form as BranchForm}
 use Rattle.kc_branch.specs.declared.piece.Form.TheVariants as forms

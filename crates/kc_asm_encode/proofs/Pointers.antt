@@ -15,7 +15,7 @@ use Rattle.kc_lex.specs.declared.words.Operands.TheVariants as operands
 use Rattle.kc_lex.specs.Words.{is_one_of, operands_of, is_generic_conditional, generic_operands_of, operands_for}
 use Rattle.kc_lex.specs.Takes.{is_plain, is_immediate, takes}
 use Rattle.kc_obj_module.specs.Numbers.{Bases}
-use Rattle.kc_asm_bytes.specs.Filling.{base_address, address}
+use Rattle.kc_asm_encode.specs.Filling.{base_address, address}
 use Rattle.kc_asm_encode.specs.declared.argument.Argument.{Argument}
 use Rattle.kc_asm_encode.specs.declared.argument.Argument.TheVariants.{Plain, Immediate, Indirect, Increment, Indexed}
 use Rattle.kc_branch.specs.declared.piece.Form.{Form}

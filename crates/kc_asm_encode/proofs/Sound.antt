@@ -17,9 +17,9 @@ use Rattle.kc_isa.specs.Formed.{is_byte, is_formed, row_fits, operand_fits, rest
 use Rattle.kc_code.specs.Spelling.{prefix, is_in_range, is_within, operand_in_range}
 use Rattle.kc_code.specs.Ranges.{OperandHas}
 use Rattle.kc_obj_module.specs.Numbers.{Bases, distance, number, fits}
-use Rattle.kc_asm_bytes.specs.declared.relocatable_byte.RelocatableByte.{RelocatableByte}
-use Rattle.kc_asm_bytes.specs.declared.relocatable_byte.RelocatableByte.TheVariants.{Plain, First}
-use Rattle.kc_asm_bytes.specs.Filling.{base_address, address}
+use Rattle.kc_asm_encode.specs.declared.relocatable_byte.RelocatableByte.{RelocatableByte}
+use Rattle.kc_asm_encode.specs.declared.relocatable_byte.RelocatableByte.TheVariants.{Plain, First}
+use Rattle.kc_asm_encode.specs.Filling.{base_address, address}
 use Rattle.kc_asm_encode.specs.declared.word.Word.{Word}
 use Rattle.kc_asm_encode.specs.declared.word.Word.TheVariants.{Absent, Register, Immediate, Indirect, Increment, Short, Long, Count, Jump}
 use Rattle.kc_asm_encode.specs.declared.word.RelocatableInsn.{RelocatableInsn}

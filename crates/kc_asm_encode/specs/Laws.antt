@@ -3,7 +3,7 @@ use Rattle.std.specs.Prelude.{◌≡◌, ℕ, true, ◌+◌, ◌%◌, Some, None
 use Rattle.kc_expr.specs.declared.values.Value.{Value}
 use Rattle.kc_code.specs.Spelling.{spelling}
 use Rattle.kc_obj_module.specs.Numbers.{Bases}
-use Rattle.kc_asm_bytes.specs.Filling.{filled}
+use Rattle.kc_asm_encode.specs.Filling.{filled}
 use Rattle.kc_asm_encode.specs.declared.argument.Argument.{Argument}
 use Rattle.kc_branch.specs.declared.piece.Form.{Form}
 use Rattle.kc_branch.specs.declared.piece.BranchKind.{BranchKind}

@@ -1,3 +1,5 @@
+pub mod Filling
+pub mod Relocating
 pub mod Values
 pub mod Sources
 pub mod Takes

@@ -10,8 +10,8 @@ use Rattle.kc_isa.specs.Names.{Shown, row_at}
 use Rattle.kc_isa.specs.Layout.{layout_of}
 use Rattle.kc_isa.specs.Formed.{is_byte}
 use Rattle.kc_code.specs.Spelling.{prefix}
-use Rattle.kc_asm_bytes.specs.declared.relocatable_byte.RelocatableByte.{RelocatableByte}
-use Rattle.kc_asm_bytes.specs.declared.relocatable_byte.RelocatableByte.TheVariants.{Plain, First, Second}
+use Rattle.kc_asm_encode.specs.declared.relocatable_byte.RelocatableByte.{RelocatableByte}
+use Rattle.kc_asm_encode.specs.declared.relocatable_byte.RelocatableByte.TheVariants.{Plain, First, Second}
 use Rattle.kc_asm_encode.specs.declared.word.Word.{Word}
 use Rattle.kc_asm_encode.specs.declared.word.Word.TheVariants as words
 use Rattle.kc_asm_encode.specs.declared.word.RelocatableInsn.{RelocatableInsn}

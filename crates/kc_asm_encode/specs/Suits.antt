@@ -11,9 +11,9 @@ use Rattle.kc_isa.specs.Formed.{is_formed}
 use Rattle.kc_code.specs.Spelling.{is_in_range}
 use Rattle.kc_code.specs.Ranges.{InsnHas}
 use Rattle.kc_obj_module.specs.Numbers.{Bases, number, reach, fits}
-use Rattle.kc_asm_bytes.specs.declared.relocatable_byte.RelocatableByte.{RelocatableByte}
-use Rattle.kc_asm_bytes.specs.declared.relocatable_byte.RelocatableByte.TheVariants as relocatable_bytes
-use Rattle.kc_asm_bytes.specs.Filling.{address}
+use Rattle.kc_asm_encode.specs.declared.relocatable_byte.RelocatableByte.{RelocatableByte}
+use Rattle.kc_asm_encode.specs.declared.relocatable_byte.RelocatableByte.TheVariants as relocatable_bytes
+use Rattle.kc_asm_encode.specs.Filling.{address}
 use Rattle.kc_expr.specs.declared.values.Value.{Value}
 use Rattle.kc_asm_encode.specs.declared.argument.Argument.{Argument}
 use Rattle.kc_asm_encode.specs.declared.argument.Argument.TheVariants as arguments

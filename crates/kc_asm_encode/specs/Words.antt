@@ -5,7 +5,7 @@ use Rattle.kc_isa.specs.declared.insn.Operand.{Operand}
 use Rattle.kc_isa.specs.declared.insn.Operand.TheVariants as operands
 use Rattle.kc_isa.specs.declared.insn.Insn.{Insn}
 use Rattle.kc_obj_module.specs.Numbers.{Bases, distance}
-use Rattle.kc_asm_bytes.specs.Filling.{address}
+use Rattle.kc_asm_encode.specs.Filling.{address}
 use Rattle.kc_asm_encode.specs.declared.word.Word.{Word}
 use Rattle.kc_asm_encode.specs.declared.word.Word.TheVariants.{Absent, Register, Immediate, Indirect, Increment, Short, Long, Count, Jump}
 use Rattle.kc_asm_encode.specs.declared.word.RelocatableInsn.{RelocatableInsn}

@@ -2,15 +2,15 @@ ghost use Rattle.std.specs.Prelude.{◌≡◌, ℕ, ◌+◌, ◌≤◌, ◌<◌,
 ghost use Rattle.std.specs.List.{All};
 ghost use Rattle.arrayvec.specs.ArrayVec.{array_vec_len};
 ghost use Rattle.kc_expr.specs.declared.values.Value.{Value};
-ghost use Rattle.kc_asm_bytes.specs.Relocating.{HasRoom};
+ghost use Rattle.kc_asm_encode.specs.Relocating.{HasRoom};
 ghost use Rattle.kc_asm_encode.specs.Instructions as instructions;
 ghost use Rattle.kc_asm_encode.specs.RelocatableBytes as relocatable_bytes;
 
+use crate::RelocatableByte;
 use crate::argument::{Argument, moved};
 use crate::instruction::instructions;
 use crate::word::{RelocatableInsn, Word};
 use arrayvec::ArrayVec;
-use kc_asm_bytes::RelocatableByte;
 use kc_branch::Form;
 use kc_expr::{Value, fixed};
 use kc_isa::{Form as Bytes, is_byte_wide, layout_for, row_of};

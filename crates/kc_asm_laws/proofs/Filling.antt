@@ -8,9 +8,9 @@ use Rattle.kc_expr.specs.declared.values.Base.{Base}
 use Rattle.kc_expr.specs.declared.values.Base.TheVariants as bases
 use Rattle.kc_obj_module.specs.Numbers.{Bases, is_distance, distance, number, reach, first_part, second_part}
 use Rattle.kc_obj_module.specs.Fixups.{may_begin}
-use Rattle.kc_asm_bytes.specs.declared.relocatable_byte.RelocatableByte.{RelocatableByte}
-use Rattle.kc_asm_bytes.specs.declared.relocatable_byte.RelocatableByte.TheVariants as relocatable_bytes
-use Rattle.kc_asm_bytes.specs.Filling.{base_address, address, fill}
+use Rattle.kc_asm_encode.specs.declared.relocatable_byte.RelocatableByte.{RelocatableByte}
+use Rattle.kc_asm_encode.specs.declared.relocatable_byte.RelocatableByte.TheVariants as relocatable_bytes
+use Rattle.kc_asm_encode.specs.Filling.{base_address, address, fill}
 use Rattle.kc_asm_section.specs.declared.part.PlacedByte.{PlacedByte}
 use Rattle.kc_asm_section.specs.Section.{placed_byte_at}
 use Rattle.kc_asm_section.specs.UnlinkedModules.{base_exists, is_relocatable_byte, AreRelocatableBytes}

@@ -6,7 +6,7 @@ use Rattle.std.proofs.lemmas.Option.{slice_get_within}
 use Rattle.kc_base.specs.Bytes.{IsBytes}
 use Rattle.kc_source_statement.specs.declared.statement.Stmt.{Stmt}
 use Rattle.kc_obj_module.specs.Object.{Object}
-use Rattle.kc_asm_bytes.specs.Filling.{fill}
+use Rattle.kc_asm_encode.specs.Filling.{fill}
 use Rattle.kc_asm_encode.specs.Laws.{NumbersAreWords}
 use Rattle.kc_asm_section.specs.declared.unlinked.UnlinkedModule.{UnlinkedModule}
 use Rattle.kc_asm_section.specs.UnlinkedModules.{IsPart, IsUnlinkedModule}

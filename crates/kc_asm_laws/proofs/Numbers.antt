@@ -31,9 +31,9 @@ use Rattle.kc_asm_symbols.specs.Few.{ExternalsAreFew}
 use Rattle.kc_asm_symbols.specs.Externals.{externals}
 use Rattle.kc_asm_symbols.specs.Located.{first_segment, value_at}
 use Rattle.kc_asm_symbols.specs.Meanings.{in_all}
-use Rattle.kc_asm_bytes.specs.declared.relocatable_byte.RelocatableByte.{RelocatableByte}
-use Rattle.kc_asm_bytes.specs.declared.relocatable_byte.RelocatableByte.TheVariants as relocatable_bytes
-use Rattle.kc_asm_bytes.specs.Relocating.{depends, relocated}
+use Rattle.kc_asm_encode.specs.declared.relocatable_byte.RelocatableByte.{RelocatableByte}
+use Rattle.kc_asm_encode.specs.declared.relocatable_byte.RelocatableByte.TheVariants as relocatable_bytes
+use Rattle.kc_asm_encode.specs.Relocating.{depends, relocated}
 use Rattle.kc_asm_encode.specs.Laws.{NumbersAreWords}
 use Rattle.kc_asm_section.specs.declared.unlinked.Public.{Public}
 use Rattle.kc_asm_section.specs.Section.{Section, placed_byte_at, relocatable_byte_at}

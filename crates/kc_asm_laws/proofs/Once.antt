@@ -10,7 +10,7 @@ use Rattle.kc_obj_module.specs.declared.parts.Segment.{Segment as ModuleSegment}
 use Rattle.kc_obj_module.specs.Object.{Object}
 use Rattle.kc_obj_module.specs.Contents.{content_at}
 use Rattle.kc_asm_symbols.specs.Located.{value_at, first_segment}
-use Rattle.kc_asm_bytes.specs.declared.relocatable_byte.RelocatableByte.{RelocatableByte}
+use Rattle.kc_asm_encode.specs.declared.relocatable_byte.RelocatableByte.{RelocatableByte}
 use Rattle.kc_asm_section.specs.declared.unlinked.UnlinkedModule.{UnlinkedModule}
 use Rattle.kc_asm_section.specs.Section.{Section, is_section, relocatable_byte_at}
 use Rattle.kc_asm_section.specs.Writing.{WrittenStands, PutStands}

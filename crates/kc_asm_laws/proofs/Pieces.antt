@@ -8,7 +8,7 @@ use Rattle.kc_obj_module.specs.declared.parts.SegKind.{SegKind}
 use Rattle.kc_obj_module.specs.declared.parts.SegKind.TheVariants.{Reg, Code, Ram}
 use Rattle.kc_obj_module.specs.declared.parts.Segment.{Segment}
 use Rattle.kc_obj_module.specs.Pieces.{kind_number, is_relocatable}
-use Rattle.kc_asm_bytes.specs.declared.relocatable_byte.RelocatableByte.{RelocatableByte}
+use Rattle.kc_asm_encode.specs.declared.relocatable_byte.RelocatableByte.{RelocatableByte}
 use Rattle.kc_asm_section.specs.Section.{Section, placed_byte_at, relocatable_byte_at}
 use Rattle.kc_asm_section.specs.declared.kept.Kept.{Kept}
 use Rattle.kc_asm_section.specs.Order.{kept_if, stack_section, stack_pieces, pieces_of, segment_of}

@@ -20,8 +20,8 @@ use Rattle.kc_isa.specs.Formed.{is_byte}
 use Rattle.kc_code.specs.Spelling.{prefix}
 use Rattle.kc_source_statement.specs.Trees.{ItemTree, ArgTree, ActionTree}
 use Rattle.kc_source_statement.specs.Trees as trees
-use Rattle.kc_asm_bytes.specs.declared.relocatable_byte.RelocatableByte.{RelocatableByte}
-use Rattle.kc_asm_bytes.specs.declared.relocatable_byte.RelocatableByte.TheVariants as relocatable_bytes
+use Rattle.kc_asm_encode.specs.declared.relocatable_byte.RelocatableByte.{RelocatableByte}
+use Rattle.kc_asm_encode.specs.declared.relocatable_byte.RelocatableByte.TheVariants as relocatable_bytes
 use Rattle.kc_branch.specs.declared.piece.Form.{Form as Branch}
 use Rattle.kc_asm_encode.specs.declared.argument.Argument.{Argument}
 use Rattle.kc_asm_encode.specs.declared.word.Word.{Word}

@@ -10,7 +10,7 @@ use Rattle.kc_obj_module.specs.declared.parts.Fixup.{Fixup}
 use Rattle.kc_obj_module.specs.declared.parts.Lines.{Lines}
 use Rattle.kc_obj_module.specs.Contents.{is_from}
 use Rattle.kc_obj_module.proofs.RoomLemmas.{from_joined}
-use Rattle.kc_asm_bytes.specs.declared.relocatable_byte.RelocatableByte.{RelocatableByte}
+use Rattle.kc_asm_encode.specs.declared.relocatable_byte.RelocatableByte.{RelocatableByte}
 use Rattle.kc_asm_section.specs.declared.part.PlacedByte.{PlacedByte}
 use Rattle.kc_asm_section.specs.Section.{Section, rise, is_section, placed_byte_offsets, placed_byte_at}
 use Rattle.kc_asm_section.specs.declared.puts.Put.{Put}

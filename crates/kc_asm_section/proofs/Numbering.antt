@@ -1,8 +1,8 @@
 -- The number of a piece is where it stands.
 use Rattle.std.proofs.Common.{◌≡◌, ℕ, ◌+◌, ◌<◌, ◌≤◌, Bool, true, false, ◌||◌, ltb, Some, List, [], ◌∷◌, ◌++◌, length, suc, zero, refl, arith}
 use Rattle.std.specs.List.{slice_get}
-use Rattle.kc_asm_bytes.specs.declared.relocatable_byte.RelocatableByte.TheVariants.{Plain, First, Second}
-use Rattle.kc_asm_bytes.specs.Relocating.{depends, shown, relocated}
+use Rattle.kc_asm_encode.specs.declared.relocatable_byte.RelocatableByte.TheVariants.{Plain, First, Second}
+use Rattle.kc_asm_encode.specs.Relocating.{depends, shown, relocated}
 use Rattle.kc_asm_section.specs.declared.unlinked.Public.{Public}
 use Rattle.kc_asm_section.specs.Section.{Section}
 use Rattle.kc_asm_section.specs.Order.{is_named, stays, kept_of, count_of, number_of, kept_if, stack_pieces, pieces_of}

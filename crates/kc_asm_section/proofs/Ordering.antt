@@ -14,7 +14,7 @@ use Rattle.kc_obj_module.specs.declared.parts.Given.{Given}
 use Rattle.kc_obj_module.specs.declared.parts.Fixup.{Fixup}
 use Rattle.kc_obj_module.specs.Pieces as object
 use Rattle.kc_obj_module.specs.Pieces.{kind_number, may_follow, segment_follows, segments_in_order, targets_piece, is_relocatable, is_empty, is_kept, all_kept}
-use Rattle.kc_asm_bytes.specs.Relocating.{is_piece}
+use Rattle.kc_asm_encode.specs.Relocating.{is_piece}
 use Rattle.kc_asm_section.specs.declared.part.PlacedByte.{PlacedByte}
 use Rattle.kc_asm_section.specs.declared.unlinked.Public.{Public}
 use Rattle.kc_asm_section.specs.Section.{Section, is_section, rise, placed_byte_offsets}

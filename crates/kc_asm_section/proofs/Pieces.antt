@@ -11,9 +11,9 @@ use Rattle.kc_obj_module.specs.declared.parts.Taken.{Taken}
 use Rattle.kc_obj_module.specs.Pieces.{kind_number}
 use Rattle.kc_obj_module.specs.Numbers.{width}
 use Rattle.kc_obj_module.specs.Fixups.{fixup_is_sound, may_begin, target_exists}
-use Rattle.kc_asm_bytes.specs.declared.relocatable_byte.RelocatableByte.{RelocatableByte}
-use Rattle.kc_asm_bytes.specs.declared.relocatable_byte.RelocatableByte.TheVariants.{Plain, First, Second}
-use Rattle.kc_asm_bytes.specs.Relocating.{is_piece, depends, leaves, shown, relocated}
+use Rattle.kc_asm_encode.specs.declared.relocatable_byte.RelocatableByte.{RelocatableByte}
+use Rattle.kc_asm_encode.specs.declared.relocatable_byte.RelocatableByte.TheVariants.{Plain, First, Second}
+use Rattle.kc_asm_encode.specs.Relocating.{is_piece, depends, leaves, shown, relocated}
 use Rattle.kc_asm_section.specs.declared.part.PlacedByte.{PlacedByte}
 use Rattle.kc_asm_section.specs.Section.{Section, placed_byte}
 use Rattle.kc_asm_section.specs.declared.puts.Put.{Put}

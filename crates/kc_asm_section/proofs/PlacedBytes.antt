@@ -5,10 +5,10 @@ use Rattle.std.proofs.lemmas.Bool.{and_parts}
 use Rattle.std.proofs.lemmas.Bool.Decides.{nat_tests}
 use Rattle.kc_obj_module.specs.Fixups.{may_begin}
 use Rattle.kc_obj_module.specs.Numbers.{first_part, number, reach}
-use Rattle.kc_asm_bytes.specs.declared.relocatable_byte.RelocatableByte.{RelocatableByte}
-use Rattle.kc_asm_bytes.specs.declared.relocatable_byte.RelocatableByte.TheVariants.{Plain, First, Second}
-use Rattle.kc_asm_bytes.specs.Filling.{address}
-use Rattle.kc_asm_bytes.specs.Relocating.{HasRoom, no_bases}
+use Rattle.kc_asm_encode.specs.declared.relocatable_byte.RelocatableByte.{RelocatableByte}
+use Rattle.kc_asm_encode.specs.declared.relocatable_byte.RelocatableByte.TheVariants.{Plain, First, Second}
+use Rattle.kc_asm_encode.specs.Filling.{address}
+use Rattle.kc_asm_encode.specs.Relocating.{HasRoom, no_bases}
 use Rattle.kc_asm_section.specs.declared.part.PlacedByte.{PlacedByte}
 use Rattle.kc_asm_section.specs.Section.{Section, rise, placed_byte_offsets, is_section}
 use Rattle.kc_asm_section.specs.Puts.{has_start}

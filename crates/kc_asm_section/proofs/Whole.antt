@@ -23,7 +23,7 @@ use Rattle.kc_obj_module.specs.Contents.{content_is_sound}
 use Rattle.kc_obj_module.specs.Fixups.{fixup_at, fixup_is_sound, fixups_in_order, has_room}
 use Rattle.kc_obj_module.specs.LineEntries.{line_is_sound, lines_in_order, lines_are_sound}
 use Rattle.kc_obj_module.specs.Object.{Object, object_of}
-use Rattle.kc_asm_bytes.specs.Relocating.{is_piece}
+use Rattle.kc_asm_encode.specs.Relocating.{is_piece}
 use Rattle.kc_asm_section.specs.declared.unlinked.UnlinkedModule.{UnlinkedModule}
 use Rattle.kc_asm_section.specs.declared.unlinked.Public.{Public}
 use Rattle.kc_asm_section.specs.Section.{Section, is_section}

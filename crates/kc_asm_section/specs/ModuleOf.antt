@@ -8,7 +8,7 @@ use Rattle.kc_obj_module.specs.Object.{Object}
 use Rattle.kc_obj_module.specs.Rules.{is_module}
 use Rattle.kc_obj_module.specs.Contents.{content_at}
 use Rattle.kc_obj_module.specs.Fixups.{fixup_at}
-use Rattle.kc_asm_bytes.specs.declared.relocatable_byte.RelocatableByte.{RelocatableByte}
+use Rattle.kc_asm_encode.specs.declared.relocatable_byte.RelocatableByte.{RelocatableByte}
 use Rattle.kc_asm_section.specs.declared.unlinked.UnlinkedModule.{UnlinkedModule}
 use Rattle.kc_asm_section.specs.Section.{Section, relocatable_byte_at}
 use Rattle.kc_asm_section.specs.declared.kept.Kept.{Kept}

@@ -1,7 +1,7 @@
 -- The number of a piece is where it stands, and the own number of an absolute part does not matter.
 use Rattle.std.specs.Prelude.{◌≡◌, ℕ, true, ◌<◌, ◌≤◌, Some, length, slice_get}
-use Rattle.kc_asm_bytes.specs.declared.relocatable_byte.RelocatableByte.{RelocatableByte}
-use Rattle.kc_asm_bytes.specs.Relocating.{shown, relocated}
+use Rattle.kc_asm_encode.specs.declared.relocatable_byte.RelocatableByte.{RelocatableByte}
+use Rattle.kc_asm_encode.specs.Relocating.{shown, relocated}
 use Rattle.kc_asm_section.specs.declared.unlinked.UnlinkedModule.{UnlinkedModule}
 use Rattle.kc_asm_section.specs.Order.{is_named, number_of}
 use Rattle.kc_asm_section.specs.ModuleOf.{kept_in, pieces_in}

@@ -5,8 +5,8 @@ use Rattle.kc_expr.specs.declared.values.Value.{Value}
 use Rattle.kc_obj_module.specs.declared.parts.SegKind.TheVariants.{Stack}
 use Rattle.kc_obj_module.specs.declared.parts.Segment.{Segment}
 use Rattle.kc_obj_module.specs.Pieces.{kind_number}
-use Rattle.kc_asm_bytes.specs.declared.relocatable_byte.RelocatableByte.{RelocatableByte}
-use Rattle.kc_asm_bytes.specs.Relocating.{is_piece, relocated}
+use Rattle.kc_asm_encode.specs.declared.relocatable_byte.RelocatableByte.{RelocatableByte}
+use Rattle.kc_asm_encode.specs.Relocating.{is_piece, relocated}
 use Rattle.kc_asm_section.specs.declared.unlinked.Public.{Public}
 use Rattle.kc_asm_section.specs.Section.{Section, section_of}
 use Rattle.kc_asm_section.specs.declared.kept.Kept.{Kept}

@@ -10,8 +10,8 @@ use Rattle.kc_obj_module.specs.Names.{is_name, is_stack_name}
 use Rattle.kc_obj_module.specs.Pieces.{kind_number, in_region, is_relocatable}
 use Rattle.kc_obj_module.specs.Numbers.{width}
 use Rattle.kc_obj_module.specs.Fixups.{may_begin}
-use Rattle.kc_asm_bytes.specs.declared.relocatable_byte.RelocatableByte.{RelocatableByte}
-use Rattle.kc_asm_bytes.specs.declared.relocatable_byte.RelocatableByte.TheVariants.{Plain, First, Second}
+use Rattle.kc_asm_encode.specs.declared.relocatable_byte.RelocatableByte.{RelocatableByte}
+use Rattle.kc_asm_encode.specs.declared.relocatable_byte.RelocatableByte.TheVariants.{Plain, First, Second}
 use Rattle.kc_asm_section.specs.declared.part.PlacedByte.{PlacedByte}
 use Rattle.kc_asm_section.specs.declared.unlinked.UnlinkedModule.{UnlinkedModule}
 use Rattle.kc_asm_section.specs.declared.unlinked.Public.{Public}

@@ -1,6 +1,6 @@
 -- What stands in a piece after relocatable bytes were written at its end.
 use Rattle.std.specs.Prelude.{◌≡◌, ℕ, true, ◌+◌, ◌-◌, nat_lt, if◌then◌else◌, List, [], ◌∷◌, ◌++◌, length, slice_get}
-use Rattle.kc_asm_bytes.specs.declared.relocatable_byte.RelocatableByte.{RelocatableByte}
+use Rattle.kc_asm_encode.specs.declared.relocatable_byte.RelocatableByte.{RelocatableByte}
 use Rattle.kc_asm_section.specs.declared.part.Mark.{Mark}
 use Rattle.kc_asm_section.specs.Section.{Section, is_section, relocatable_byte_at, mark, put, written}
 

@@ -1,12 +1,12 @@
 ghost use Rattle.std.specs.Prelude.{◌≡◌, slice_get};
 ghost use Rattle.std.specs.List.{list_any};
 ghost use Rattle.kc_obj_module.specs.Pieces as pieces;
-ghost use Rattle.kc_asm_bytes.specs.Relocating as relocating;
+ghost use Rattle.kc_asm_encode.specs.Relocating as relocating;
 ghost use Rattle.kc_asm_section.specs.Order as order;
 
 use crate::part::Part;
 use crate::unlinked::Public;
-use kc_asm_bytes::{RelocatableByte, relocated};
+use kc_asm_encode::{RelocatableByte, relocated};
 use kc_expr::Base;
 use kc_obj_module::SegKind;
 use kc_obj_module::pieces::number_of as kind_number;

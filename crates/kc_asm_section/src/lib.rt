@@ -1,6 +1,6 @@
 //! The sections of a module while they are written: relocatable bytes at their offsets, with the lines that they come from;
 //! the unlinked module that they make up with its names; and `module_of`, the module of an object file. It stands on
-//! `kc_asm_bytes` and `kc_obj_module`. Example: the three relocatable bytes of `LCALL F`, of an external F, become three
+//! `kc_asm_encode` and `kc_obj_module`. Example: the three relocatable bytes of `LCALL F`, of an external F, become three
 //! bytes with one relocation at offset 1.
 #![tactic(auto)]
 

@@ -1,7 +1,7 @@
 ghost use Rattle.std.specs.Prelude.{◌≡◌, ◌+◌, ◌≤◌, ◌<◌, true, length, OnOk, OnErr};
 ghost use Rattle.kc_asm_section.specs.Section as section;
 
-use kc_asm_bytes::RelocatableByte;
+use kc_asm_encode::RelocatableByte;
 use kc_base::NoMemory;
 use kc_obj_module::SegKind;
 use std::alloc::Global;

@@ -1,13 +1,13 @@
 ghost use Rattle.std.specs.Prelude.{◌≡◌, ◌+◌, ◌<◌, ◌≤◌, ◌++◌, map, true, OnOk};
 ghost use Rattle.std.specs.List.{list_all};
 ghost use Rattle.kc_obj_module.specs.Pieces as pieces;
-ghost use Rattle.kc_asm_bytes.specs.Relocating as relocating;
+ghost use Rattle.kc_asm_encode.specs.Relocating as relocating;
 ghost use Rattle.kc_asm_section.specs.Order as order;
 ghost use Rattle.kc_asm_section.specs.Puts as spec;
 
 use crate::kept::{Kept, number_of, own_number};
 use crate::part::{Mark, Part, PlacedByte};
-use kc_asm_bytes::{relocated, shown};
+use kc_asm_encode::{relocated, shown};
 use kc_base::NoMemory;
 use kc_expr::{Base, Value};
 use kc_obj_module::{Fixup, Lines, Target};

@@ -2,9 +2,8 @@
 ghost use Rattle.std.specs.Prelude.{Err};
 ghost use Rattle.kc_expr.specs.declared.values.NoValue.TheVariants.{ReportedElsewhere};
 
-use kc_asm_bytes::RelocatableByte;
 use kc_asm_emit::{Content, Extent, content_of, extent_of, fault};
-use kc_asm_encode::{Argument, fault as operand_fault, moved};
+use kc_asm_encode::{Argument, RelocatableByte, fault as operand_fault, moved};
 use kc_base::{NoMemory, Text};
 use kc_branch::Form;
 use kc_expr::{Base, NoValue, Scope, Symbols, Tag, Value, fixed};

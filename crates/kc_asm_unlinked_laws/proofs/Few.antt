@@ -25,9 +25,9 @@ use Rattle.kc_asm_symbols.specs.Located.{Located, located_from, value_at, base_o
 use Rattle.kc_asm_symbols.specs.Meanings.{meaning, in_all}
 use Rattle.kc_asm_symbols.specs.Known.{MeaningsAreKnown, BasesAreKnown}
 use Rattle.kc_asm_symbols.proofs.WalkLemmas.{located_length, further}
-use Rattle.kc_asm_bytes.specs.declared.relocatable_byte.RelocatableByte.{RelocatableByte}
-use Rattle.kc_asm_bytes.specs.declared.relocatable_byte.RelocatableByte.TheVariants.{Plain, First, Second}
-use Rattle.kc_asm_bytes.specs.Relocating.{is_piece, depends, relocated}
+use Rattle.kc_asm_encode.specs.declared.relocatable_byte.RelocatableByte.{RelocatableByte}
+use Rattle.kc_asm_encode.specs.declared.relocatable_byte.RelocatableByte.TheVariants.{Plain, First, Second}
+use Rattle.kc_asm_encode.specs.Relocating.{is_piece, depends, relocated}
 use Rattle.kc_asm_section.specs.declared.part.PlacedByte.{PlacedByte}
 use Rattle.kc_asm_section.specs.declared.unlinked.UnlinkedModule.{UnlinkedModule}
 use Rattle.kc_asm_section.specs.declared.unlinked.Public.{Public as Given}

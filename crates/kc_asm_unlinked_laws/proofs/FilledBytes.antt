@@ -8,10 +8,10 @@ use Rattle.kc_expr.specs.declared.values.Base.TheVariants.{Fixed, Absolute, Piec
 use Rattle.kc_obj_module.specs.Pieces.{kind_number}
 use Rattle.kc_obj_module.specs.Numbers.{Bases, distance, is_distance, number, reach, width, second_part}
 use Rattle.kc_asm_section.specs.Section.{Section}
-use Rattle.kc_asm_bytes.specs.declared.relocatable_byte.RelocatableByte.{RelocatableByte}
-use Rattle.kc_asm_bytes.specs.declared.relocatable_byte.RelocatableByte.TheVariants.{Plain, First, Second}
-use Rattle.kc_asm_bytes.specs.Filling.{base_address, address, fill}
-use Rattle.kc_asm_bytes.specs.Relocating.{counts, leaves, depends, no_bases, shown, relocated}
+use Rattle.kc_asm_encode.specs.declared.relocatable_byte.RelocatableByte.{RelocatableByte}
+use Rattle.kc_asm_encode.specs.declared.relocatable_byte.RelocatableByte.TheVariants.{Plain, First, Second}
+use Rattle.kc_asm_encode.specs.Filling.{base_address, address, fill}
+use Rattle.kc_asm_encode.specs.Relocating.{counts, leaves, depends, no_bases, shown, relocated}
 use Rattle.kc_link_place.specs.Filled.{target_number, first_of_fixup, second_of_fixup}
 use Rattle.kc_asm_section.specs.Order.{start_of, relocation}
 use Rattle.kc_asm_section.specs.ModuleOf.{fixup_from}

@@ -12,10 +12,10 @@ use Rattle.kc_obj_module.specs.Contents.{content_at}
 use Rattle.kc_obj_module.specs.Fixups.{fixup_at}
 use Rattle.kc_obj_module.specs.Pieces.{kind_number}
 use Rattle.kc_obj_module.specs.Numbers.{Bases, number, reach, width, fits}
-use Rattle.kc_asm_bytes.specs.declared.relocatable_byte.RelocatableByte.{RelocatableByte}
-use Rattle.kc_asm_bytes.specs.declared.relocatable_byte.RelocatableByte.TheVariants.{Plain, First, Second}
-use Rattle.kc_asm_bytes.specs.Filling.{address, fill}
-use Rattle.kc_asm_bytes.specs.Relocating.{depends, relocated, no_bases, misfit, misfit_code}
+use Rattle.kc_asm_encode.specs.declared.relocatable_byte.RelocatableByte.{RelocatableByte}
+use Rattle.kc_asm_encode.specs.declared.relocatable_byte.RelocatableByte.TheVariants.{Plain, First, Second}
+use Rattle.kc_asm_encode.specs.Filling.{address, fill}
+use Rattle.kc_asm_encode.specs.Relocating.{depends, relocated, no_bases, misfit, misfit_code}
 use Rattle.kc_link_place.specs.Filled.{first_of_fixup, second_of_fixup, second_at, fixup_number, part_at, plus, filled_at}
 use Rattle.kc_asm_section.specs.declared.unlinked.UnlinkedModule.{UnlinkedModule}
 use Rattle.kc_asm_section.specs.Section.{Section, is_section, relocatable_byte_at}

@@ -9,8 +9,8 @@ use Rattle.kc_obj_module.specs.declared.parts.SegKind.{SegKind}
 use Rattle.kc_obj_module.specs.declared.parts.SegKind.TheVariants.{Reg, Code, Ram}
 use Rattle.kc_obj_module.specs.Pieces.{kind_number, is_relocatable}
 use Rattle.kc_obj_module.specs.Numbers.{width}
-use Rattle.kc_asm_bytes.specs.declared.relocatable_byte.RelocatableByte.{RelocatableByte}
-use Rattle.kc_asm_bytes.specs.declared.relocatable_byte.RelocatableByte.TheVariants.{First, Second}
+use Rattle.kc_asm_encode.specs.declared.relocatable_byte.RelocatableByte.{RelocatableByte}
+use Rattle.kc_asm_encode.specs.declared.relocatable_byte.RelocatableByte.TheVariants.{First, Second}
 use Rattle.kc_asm_section.specs.declared.part.PlacedByte.{PlacedByte}
 use Rattle.kc_asm_section.specs.Section.{Section, rise, placed_byte_offsets, is_section, placed_byte_at, relocatable_byte_at, placed_byte}
 use Rattle.kc_asm_section.specs.UnlinkedModules.{BeginsWithSecond, IsComplete, AreRelocatableBytes, IsPart, stands_at, is_relocatable_part, is_absolute_part, stand_well}

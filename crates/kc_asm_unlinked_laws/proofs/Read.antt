@@ -16,7 +16,7 @@ use Rattle.kc_source.specs.Faults.{holds_bytes}
 use Rattle.kc_asm_symbols.specs.declared.segments.Segment.{Segment}
 use Rattle.kc_asm_symbols.specs.Located.{Located, located_from, value_at, segment_after, first_segment}
 use Rattle.kc_asm_symbols.specs.Reported.{is_public, is_code, stands_well, AreReadWell}
-use Rattle.kc_asm_bytes.specs.declared.relocatable_byte.RelocatableByte.{RelocatableByte}
+use Rattle.kc_asm_encode.specs.declared.relocatable_byte.RelocatableByte.{RelocatableByte}
 use Rattle.kc_branch.specs.declared.piece.Form.{Form}
 use Rattle.kc_asm_emit.specs.Arguments.{Look, fixed_of}
 use Rattle.kc_asm_emit.specs.Content.{RelocatableBytes, content, reserved, upto}

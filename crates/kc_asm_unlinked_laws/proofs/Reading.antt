@@ -2,8 +2,8 @@
 use Rattle.std.proofs.Common.{◌≡◌, ℕ, zero, suc, ◌+◌, ◌-◌, ◌≤◌, Some, List, [], ◌∷◌, ◌++◌, refl, sym, ap, ◌∙◌, arith}
 use Rattle.std.specs.Prelude.{slice_get, drop}
 use Rattle.kc_obj_module.specs.Numbers.{Bases}
-use Rattle.kc_asm_bytes.specs.declared.relocatable_byte.RelocatableByte.{RelocatableByte}
-use Rattle.kc_asm_bytes.specs.Filling.{fill, filled}
+use Rattle.kc_asm_encode.specs.declared.relocatable_byte.RelocatableByte.{RelocatableByte}
+use Rattle.kc_asm_encode.specs.Filling.{fill, filled}
 use Rattle.kc_asm_unlinked_laws.specs.Parts.{start, part_bases}
 use Rattle.kc_asm_unlinked_laws.specs.Linked.{IsHeld, HeldIsRead}
 

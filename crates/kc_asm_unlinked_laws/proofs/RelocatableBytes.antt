@@ -14,8 +14,8 @@ use Rattle.kc_obj_module.specs.declared.parts.SegKind.TheVariants.{Code}
 use Rattle.kc_obj_module.specs.Pieces.{kind_number}
 use Rattle.kc_obj_module.specs.Numbers.{width}
 use Rattle.kc_obj_module.specs.Fixups.{may_begin}
-use Rattle.kc_asm_bytes.specs.declared.relocatable_byte.RelocatableByte.{RelocatableByte}
-use Rattle.kc_asm_bytes.specs.declared.relocatable_byte.RelocatableByte.TheVariants.{Plain, First, Second}
+use Rattle.kc_asm_encode.specs.declared.relocatable_byte.RelocatableByte.{RelocatableByte}
+use Rattle.kc_asm_encode.specs.declared.relocatable_byte.RelocatableByte.TheVariants.{Plain, First, Second}
 use Rattle.kc_source_statement.specs.declared.statement.Stmt.{Stmt}
 use Rattle.kc_source_statement.specs.Trees.{action_tree}
 use Rattle.kc_asm_symbols.specs.declared.segments.Segment.{Segment}

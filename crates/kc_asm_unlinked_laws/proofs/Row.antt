@@ -1,8 +1,8 @@
 -- The worked unlinked module, computed.
 use Rattle.std.proofs.Common.{◌≡◌, true, false, List, refl, ap, ◌∙◌}
 use Rattle.kc_obj_module.specs.Numbers.{distance, number, first_part, second_part}
-use Rattle.kc_asm_bytes.specs.Filling.{fill}
-use Rattle.kc_asm_bytes.specs.Relocating.{depends, relocated}
+use Rattle.kc_asm_encode.specs.Filling.{fill}
+use Rattle.kc_asm_encode.specs.Relocating.{depends, relocated}
 use Rattle.kc_asm_section.specs.Section.{Section}
 use Rattle.kc_asm_section.specs.declared.unlinked.Public.{Public}
 use Rattle.kc_asm_section.specs.declared.kept.Kept.{Kept}

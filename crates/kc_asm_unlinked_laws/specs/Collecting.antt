@@ -12,7 +12,7 @@ use Rattle.kc_source_statement.specs.Formed.{given_names}
 use Rattle.kc_asm_symbols.specs.Located.{Located}
 use Rattle.kc_asm_symbols.specs.Externals.{externals}
 use Rattle.kc_asm_symbols.specs.Meanings.{meaning, in_all}
-use Rattle.kc_asm_bytes.specs.declared.relocatable_byte.RelocatableByte.TheVariants.{Plain}
+use Rattle.kc_asm_encode.specs.declared.relocatable_byte.RelocatableByte.TheVariants.{Plain}
 use Rattle.kc_asm_section.specs.declared.unlinked.UnlinkedModule.{UnlinkedModule}
 use Rattle.kc_asm_section.specs.declared.unlinked.Public.{Public as Given}
 use Rattle.kc_asm_section.specs.Section.{Section, blank, laid, skipped, written}

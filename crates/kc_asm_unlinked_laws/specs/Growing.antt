@@ -1,8 +1,8 @@
 -- A part keeps whole numbers that fit while relocatable bytes are written at its end.
 use Rattle.std.specs.Prelude.{◌≡◌, ℕ, ◌+◌, Some, None, List, slice_get}
 use Rattle.kc_obj_module.specs.Pieces.{kind_number}
-use Rattle.kc_asm_bytes.specs.declared.relocatable_byte.RelocatableByte.{RelocatableByte}
-use Rattle.kc_asm_bytes.specs.Relocating.{misfit}
+use Rattle.kc_asm_encode.specs.declared.relocatable_byte.RelocatableByte.{RelocatableByte}
+use Rattle.kc_asm_encode.specs.Relocating.{misfit}
 use Rattle.kc_asm_encode.specs.Pairs.{IsPaired}
 use Rattle.kc_asm_section.specs.Section.{Section}
 use Rattle.kc_asm_section.specs.Writing.{IsLonger}

@@ -5,9 +5,9 @@ use Rattle.kc_base.specs.Limits.{image_start}
 use Rattle.kc_expr.specs.declared.values.Value.{Value}
 use Rattle.kc_obj_module.specs.Object.{Object}
 use Rattle.kc_obj_module.specs.Numbers.{Bases, number, reach, fits}
-use Rattle.kc_asm_bytes.specs.declared.relocatable_byte.RelocatableByte.{RelocatableByte}
-use Rattle.kc_asm_bytes.specs.declared.relocatable_byte.RelocatableByte.TheVariants.{First}
-use Rattle.kc_asm_bytes.specs.Filling.{address, fill, filled}
+use Rattle.kc_asm_encode.specs.declared.relocatable_byte.RelocatableByte.{RelocatableByte}
+use Rattle.kc_asm_encode.specs.declared.relocatable_byte.RelocatableByte.TheVariants.{First}
+use Rattle.kc_asm_encode.specs.Filling.{address, fill, filled}
 use Rattle.kc_asm_section.specs.declared.unlinked.UnlinkedModule.{UnlinkedModule}
 use Rattle.kc_asm_section.specs.Section.{Section, relocatable_byte_at}
 use Rattle.kc_asm_section.specs.UnlinkedModules.{IsUnlinkedModule}

@@ -5,9 +5,9 @@ use Rattle.std.specs.List.{list_all}
 use Rattle.kc_expr.specs.declared.values.Value.{Value}
 use Rattle.kc_obj_module.specs.Pieces.{kind_number}
 use Rattle.kc_obj_module.specs.Numbers.{width}
-use Rattle.kc_asm_bytes.specs.declared.relocatable_byte.RelocatableByte.{RelocatableByte}
-use Rattle.kc_asm_bytes.specs.declared.relocatable_byte.RelocatableByte.TheVariants.{First, Second}
-use Rattle.kc_asm_bytes.specs.Relocating.{misfit}
+use Rattle.kc_asm_encode.specs.declared.relocatable_byte.RelocatableByte.{RelocatableByte}
+use Rattle.kc_asm_encode.specs.declared.relocatable_byte.RelocatableByte.TheVariants.{First, Second}
+use Rattle.kc_asm_encode.specs.Relocating.{misfit}
 use Rattle.kc_asm_section.specs.declared.unlinked.UnlinkedModule.{UnlinkedModule}
 use Rattle.kc_asm_section.specs.Section.{Section, is_section, relocatable_byte_at}
 use Rattle.kc_asm_section.specs.Order.{start_of}

@@ -3,7 +3,7 @@
 use Rattle.std.specs.Prelude.{◌≡◌}
 use Rattle.kc_expr.specs.declared.values.Base.TheVariants.{Fixed, Piece}
 use Rattle.kc_obj_module.specs.Numbers.{Bases}
-use Rattle.kc_asm_bytes.specs.Filling.{fill}
+use Rattle.kc_asm_encode.specs.Filling.{fill}
 use Rattle.kc_asm_section.specs.declared.unlinked.UnlinkedModule.{UnlinkedModule}
 use Rattle.kc_asm_section.specs.Worked.{parts, publics, first, second}
 use Rattle.kc_asm_unlinked_laws.specs.Parts.{piece_number, start, part_bases}

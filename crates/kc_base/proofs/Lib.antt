@@ -1,7 +1,7 @@
 pub mod BitLemmas
 pub mod ByteLemmas
 pub mod DigitLemmas
-mod Faults
+pub mod Faults
 pub mod Growth
 pub mod NameLemmas
 pub mod Numbers

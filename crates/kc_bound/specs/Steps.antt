@@ -3,6 +3,8 @@ use Rattle.std.specs.Prelude.{◌≡◌, ◌≢◌, ℕ, ◌+◌, ◌≤◌, ◌
 use Rattle.kc_base.specs.Limits.{image_start, rom_end}
 use Rattle.kc_isa.specs.declared.insn.Insn.{Insn}
 use Rattle.kc_isa.specs.declared.insn.Place.{Place}
+use Rattle.kc_isa.specs.declared.table.Mnemonic.{Mnemonic}
+use Rattle.kc_isa.specs.Names.{mnemonic_at}
 use Rattle.kc_isa.specs.Formed.{states_of}
 use Rattle.kc_code.specs.declared.reader.Decoded.TheVariants.{Short}
 use Rattle.kc_code.specs.Reading.{decode_of}
@@ -21,6 +23,10 @@ abbrev pub StatesAreMost : Type 0
 StatesAreMost =
     (plan : Plan) (insn : Insn) (psw wsr : ℕ) (byte : ℕ → ℕ) (place : Place) → planned_place plan insn psw wsr byte ≡ Ok place
     → (states_of insn place ≤ most_states plan insn place.taken) × (place.taken ≡ jump_taken plan psw)
+
+-- an instruction takes a state at least
+abbrev pub StatesAreSome : Type 0
+StatesAreSome = (insn : Insn) (place : Place) (mnemonic : Mnemonic) → mnemonic_at insn.opcode insn.signed ≡ Some mnemonic → 0 < states_of insn place
 
 -- what a machine decodes in the ROM is what stands there in its image
 abbrev pub FoundIsDecoded : Type 0 → Type 0

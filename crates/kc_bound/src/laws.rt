@@ -1,10 +1,15 @@
 ghost use Rattle.kc_bound.specs.Bounded.{CertifiedIsBounded};
 ghost use Rattle.kc_bound.specs.Rising.{NotesStandByAddress};
-ghost use Rattle.kc_bound.specs.Steps.{StatesAreMost, FoundIsDecoded, TurnIsPaid};
+ghost use Rattle.kc_bound.specs.Steps.{StatesAreMost, StatesAreSome, FoundIsDecoded, TurnIsPaid};
 
 /// An instruction takes at most the states of its way.
 pub fn states_are_most()
     ensures { StatesAreMost }
+{}
+
+/// An instruction takes a state at least.
+pub fn states_are_some()
+    ensures { StatesAreSome }
 {}
 
 /// What a machine decodes in the ROM is what stands there in its image.

@@ -252,7 +252,7 @@ fn no_notes(alloc: Global) -> Notes
     }
 }
 
-// How many loops have their heads below an address; and so on.
+// How many loops stand first with their heads below an address.
 fn loops_below(loops: &[Loop], head: u16) -> usize
     ensures value { result ≡ length (take_while (λ l. nat_lt l.head head) loops.now) }
     ensures within { result ≤ length loops.now }
@@ -260,6 +260,7 @@ fn loops_below(loops: &[Loop], head: u16) -> usize
     loops.iter().take_while(|l| l.head < head).count()
 }
 
+// How many notes of jumps stand first below an address.
 fn goes_below(goes: &[Goes], jump: u16) -> usize
     ensures value { result ≡ length (take_while (λ g. nat_lt g.jump jump) goes.now) }
     ensures within { result ≤ length goes.now }
@@ -267,6 +268,7 @@ fn goes_below(goes: &[Goes], jump: u16) -> usize
     goes.iter().take_while(|g| g.jump < jump).count()
 }
 
+// How many notes of block moves stand first below an address.
 fn words_below(words: &[Moved], block: u16) -> usize
     ensures value { result ≡ length (take_while (λ m. nat_lt m.block block) words.now) }
     ensures within { result ≤ length words.now }
@@ -274,6 +276,7 @@ fn words_below(words: &[Moved], block: u16) -> usize
     words.iter().take_while(|m| m.block < block).count()
 }
 
+// How many ends stand first below an address.
 fn ends_below(ends: &[u16], at: u16) -> usize
     ensures value { result ≡ length (take_while (λ a. nat_lt a at) ends.now) }
     ensures within { result ≤ length ends.now }
@@ -299,7 +302,7 @@ fn is_block(words: &[Moved], block: u16) -> bool
     words.iter().any(|m| m.block == block)
 }
 
-// Adds a loop, if there is one and its head is new; and so on.
+// Adds a loop at its place, if there is one and its head is new.
 fn add_loop(loops: &mut Vec<Loop>, read: Option<Loop>) -> Result<bool, NoMemory>
     ensures { IfOk result (λ is_note. IsAdded is_note (spec.with_new (λ l. l.head) (map loop_read loops.old.items) (option_map loop_read read)) (map loop_read loops.new.items)) }
 {
@@ -314,6 +317,7 @@ fn add_loop(loops: &mut Vec<Loop>, read: Option<Loop>) -> Result<bool, NoMemory>
     Ok(true)
 }
 
+// Adds the note of a jump at its place, if there is one and its address is new.
 fn add_goes(goes: &mut Vec<Goes>, read: Option<Goes>) -> Result<bool, NoMemory>
     ensures { IfOk result (λ is_note. IsAdded is_note (spec.with_new (λ g. g.jump) (map goes_read goes.old.items) (option_map goes_read read)) (map goes_read goes.new.items)) }
 {
@@ -328,6 +332,7 @@ fn add_goes(goes: &mut Vec<Goes>, read: Option<Goes>) -> Result<bool, NoMemory>
     Ok(true)
 }
 
+// Adds the note of a block move at its place, if there is one and its address is new.
 fn add_moved(words: &mut Vec<Moved>, read: Option<Moved>) -> Result<bool, NoMemory>
     ensures { IfOk result (λ is_note. IsAdded is_note (spec.with_new (λ m. m.block) words.old.items read) words.new.items) }
 {
@@ -342,6 +347,7 @@ fn add_moved(words: &mut Vec<Moved>, read: Option<Moved>) -> Result<bool, NoMemo
     Ok(true)
 }
 
+// Adds an end at its place, if there is one and it is new.
 fn add_end(ends: &mut Vec<u16>, read: Option<u16>) -> Result<bool, NoMemory>
     ensures { IfOk result (λ is_note. IsAdded is_note (spec.with_new (λ a. a) ends.old.items read) ends.new.items) }
 {

@@ -8,10 +8,10 @@ use Rattle.kc_base.specs.declared.types.Level.TheVariants.{Low, High}
 use Rattle.kc_base.specs.Levels.{level_of}
 use Rattle.kc_base.specs.Pins.{pin_count, pin_facts, is_input}
 use Rattle.kc_base.proofs.PinLemmas.{no_facts, no_input}
-use Rattle.kc_life.specs.declared.life.Signal.{Signal}
-use Rattle.kc_life.specs.declared.life.Signal.TheVariants.{Output, Input}
-use Rattle.kc_life.specs.declared.life.What.{What}
-use Rattle.kc_life.specs.Signals.{pin_of, starts_high}
+use Rattle.kc_trace.specs.declared.life.Signal.{Signal}
+use Rattle.kc_trace.specs.declared.life.Signal.TheVariants.{Output, Input}
+use Rattle.kc_trace.specs.declared.life.What.{What}
+use Rattle.kc_trace.specs.Signals.{pin_of, starts_high}
 use Rattle.kc_stim.specs.Drives.{Drives, wire_to, level_at, level_before, IsStill}
 use Rattle.kc_events.specs.Lives.{input_level, input_before, edge_between, edge_if_input, input_edges, start_by, start_levels}
 

@@ -4,10 +4,10 @@ use Rattle.std.specs.Prelude.{All}
 use Rattle.std.proofs.lemmas.List.Elements.{All-nil, All-cons}
 use Rattle.kc_base.specs.Limits.{max_states}
 use Rattle.kc_base.specs.declared.types.Level.{Level}
-use Rattle.kc_life.specs.declared.life.Signal.{Signal}
-use Rattle.kc_life.specs.declared.life.What.{What}
-use Rattle.kc_life.specs.declared.life.Event.{Event}
-use Rattle.kc_life.specs.Lives.{Life, State, IsLife, IsOrderedFrom, IsUpTo, events_in, events_of}
+use Rattle.kc_trace.specs.declared.life.Signal.{Signal}
+use Rattle.kc_trace.specs.declared.life.What.{What}
+use Rattle.kc_trace.specs.declared.life.Event.{Event}
+use Rattle.kc_trace.specs.Lives.{Life, State, IsLife, IsOrderedFrom, IsUpTo, events_in, events_of}
 use Rattle.kc_stim.specs.Drives.{Drives}
 use Rattle.kc_trace.specs.declared.record.Record.TheVariants.{Pin, Entered, Served, Undef, Stopped, Pc, Psw, Wsr, Registers}
 use Rattle.kc_events.specs.declared.line.Line.{Line}

@@ -7,11 +7,11 @@ use Rattle.kc_base.specs.declared.types.Level.TheVariants.{Low}
 use Rattle.kc_base.specs.Levels.{level_of}
 use Rattle.kc_base.specs.Pins.{IsPin, is_printed, pin_facts}
 use Rattle.kc_base.proofs.PinLemmas.{no_facts}
-use Rattle.kc_life.specs.declared.life.Signal.{Signal}
-use Rattle.kc_life.specs.declared.life.Signal.TheVariants.{Output}
-use Rattle.kc_life.specs.declared.levels.Levels.{Levels}
-use Rattle.kc_life.specs.Signals.{pin_of, same_signal, starts_high, start_level}
-use Rattle.kc_life.specs.Tables.{level_in}
+use Rattle.kc_trace.specs.declared.life.Signal.{Signal}
+use Rattle.kc_trace.specs.declared.life.Signal.TheVariants.{Output}
+use Rattle.kc_trace.specs.declared.levels.Levels.{Levels}
+use Rattle.kc_trace.specs.Signals.{pin_of, same_signal, starts_high, start_level}
+use Rattle.kc_trace.specs.Tables.{level_in}
 use Rattle.kc_events.specs.declared.line.Line.{Line}
 use Rattle.kc_events.specs.Lines.{IsSoundLine, line_text}
 use Rattle.kc_trace.specs.declared.record.Record.TheVariants.{Pin}

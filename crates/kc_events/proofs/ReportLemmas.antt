@@ -8,7 +8,7 @@ use Rattle.kc_base.specs.Causes.{Rose}
 use Rattle.kc_base.specs.TextLines.{text_lines}
 use Rattle.kc_base.proofs.Words.{no_lines}
 use Rattle.kc_byte_source.specs.Feed.{GaveLine}
-use Rattle.kc_life.specs.declared.life.Event.{Event}
+use Rattle.kc_trace.specs.declared.life.Event.{Event}
 use Rattle.kc_stim.specs.Drives.{Drives}
 use Rattle.kc_trace.specs.declared.record.Record.TheVariants.{Pin, Entered, Served, Undef, Stopped, Pc, Psw, Wsr, Registers}
 use Rattle.kc_events.specs.declared.line.Line.{Line}

@@ -2,10 +2,10 @@
 use Rattle.std.proofs.Common.{◌≡◌, ℕ, zero, suc, ◌+◌, ◌<◌, ◌≤◌, cond, eqb, List, [], ◌∷◌, ◌++◌, map, filter, refl, sym, ap, ◌∙◌, append_assoc, append-nil, arith}
 use Rattle.std.proofs.lemmas.Bool.{ne_eqb, eq-eqb}
 use Rattle.kc_base.specs.declared.types.Level.{Level}
-use Rattle.kc_life.specs.declared.life.Signal.{Signal}
-use Rattle.kc_life.specs.declared.life.What.{What}
-use Rattle.kc_life.specs.declared.life.Event.{Event}
-use Rattle.kc_life.specs.Lives.{State}
+use Rattle.kc_trace.specs.declared.life.Signal.{Signal}
+use Rattle.kc_trace.specs.declared.life.What.{What}
+use Rattle.kc_trace.specs.declared.life.Event.{Event}
+use Rattle.kc_trace.specs.Lives.{State}
 use Rattle.kc_stim.specs.Drives.{Drives}
 use Rattle.kc_events.specs.Lives.{input_edges, levels_after, reported_in, states_from}
 use Rattle.kc_events.specs.Coming.{states_on, AreFrom}

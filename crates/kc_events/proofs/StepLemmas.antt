@@ -2,12 +2,12 @@
 use Rattle.std.proofs.Common.{◌≡◌, ℕ, zero, suc, ◌+◌, ◌-◌, ◌<◌, ◌≤◌, Bool, true, false, Option, Some, None, Result, Ok, Err, List, [], ◌∷◌, ◌++◌, refl, sym, ap, subst, ◌∙◌, arith}
 use Rattle.std.specs.Prelude.{IfOk}
 use Rattle.kc_base.specs.declared.types.Level.{Level}
-use Rattle.kc_life.specs.declared.life.Signal.{Signal}
-use Rattle.kc_life.specs.declared.life.What.{What}
-use Rattle.kc_life.specs.declared.life.Event.{Event}
-use Rattle.kc_life.specs.declared.levels.Levels.{Levels}
-use Rattle.kc_life.specs.Lives.{level_after}
-use Rattle.kc_life.specs.Tables.{level_in}
+use Rattle.kc_trace.specs.declared.life.Signal.{Signal}
+use Rattle.kc_trace.specs.declared.life.What.{What}
+use Rattle.kc_trace.specs.declared.life.Event.{Event}
+use Rattle.kc_trace.specs.declared.levels.Levels.{Levels}
+use Rattle.kc_trace.specs.Lives.{level_after}
+use Rattle.kc_trace.specs.Tables.{level_in}
 use Rattle.kc_stim.specs.Drives.{Drives, IsStill}
 use Rattle.kc_events.specs.declared.line.Line.{Line}
 use Rattle.kc_events.specs.declared.course.Step.{Step}

@@ -8,9 +8,9 @@ use Rattle.std.specs.Prelude.{◌≡◌, ℕ, ◌+◌, ◌-◌, ◌*◌, ◌==�
 use Rattle.kc_base.specs.Limits.{max_states}
 use Rattle.kc_base.specs.declared.types.Level.{Level}
 use Rattle.kc_base.specs.Levels.{is_high}
-use Rattle.kc_life.specs.declared.life.Signal.TheVariants.{Output}
+use Rattle.kc_trace.specs.declared.life.Signal.TheVariants.{Output}
 use Rattle.kc_base.specs.Pins.{is_printed}
-use Rattle.kc_life.specs.Signals.{start_level}
+use Rattle.kc_trace.specs.Signals.{start_level}
 use Rattle.kc_trace.specs.declared.record.Record.{Record}
 use Rattle.kc_trace.specs.declared.record.Record.TheVariants.{Pin, Entered, Served, Undef, Stopped, Pc, Psw, Wsr, Registers}
 use Rattle.kc_events.specs.declared.line.Line.{Line}

@@ -4,8 +4,8 @@ use Rattle.kc_base.specs.TextLines.{text_lines}
 use Rattle.kc_events.specs.declared.line.Line.{Line}
 use Rattle.kc_events.specs.Lines.{line_text, trace_text}
 use Rattle.kc_base.specs.declared.types.Level.{Level}
-use Rattle.kc_life.specs.declared.life.Signal.{Signal}
-use Rattle.kc_life.specs.Lives.{IsLife}
+use Rattle.kc_trace.specs.declared.life.Signal.{Signal}
+use Rattle.kc_trace.specs.Lives.{IsLife}
 use Rattle.kc_stim.specs.Drives.{Drives}
 use Rattle.kc_events.specs.Grammar.{AreLines, IsRun, start_place}
 use Rattle.kc_events.specs.Lives.{lives_of}

@@ -9,14 +9,14 @@ use Rattle.std.specs.List.{range_with_len}
 use Rattle.kc_base.specs.declared.types.Level.{Level}
 use Rattle.kc_base.specs.declared.types.Level.TheVariants.{Low}
 use Rattle.kc_base.specs.Pins.{pin_count}
-use Rattle.kc_life.specs.declared.life.Signal.{Signal}
-use Rattle.kc_life.specs.declared.life.Signal.TheVariants.{Output, Input}
-use Rattle.kc_life.specs.declared.life.What.{What}
-use Rattle.kc_life.specs.declared.life.What.TheVariants.{Edge, Entry, Transfer, Undefined, Reset, Watchdog, Powerdown}
-use Rattle.kc_life.specs.declared.life.Event.{Event}
+use Rattle.kc_trace.specs.declared.life.Signal.{Signal}
+use Rattle.kc_trace.specs.declared.life.Signal.TheVariants.{Output, Input}
+use Rattle.kc_trace.specs.declared.life.What.{What}
+use Rattle.kc_trace.specs.declared.life.What.TheVariants.{Edge, Entry, Transfer, Undefined, Reset, Watchdog, Powerdown}
+use Rattle.kc_trace.specs.declared.life.Event.{Event}
 use Rattle.kc_base.specs.Pins.{is_input}
-use Rattle.kc_life.specs.Signals.{start_level}
-use Rattle.kc_life.specs.Lives.{Life, State, level_after, events_of}
+use Rattle.kc_trace.specs.Signals.{start_level}
+use Rattle.kc_trace.specs.Lives.{Life, State, level_after, events_of}
 use Rattle.kc_stim.specs.Drives.{Drives, wire_to, level_at, level_before}
 use Rattle.kc_trace.specs.declared.record.Record.{Record}
 use Rattle.kc_trace.specs.declared.record.Record.TheVariants.{Pin, Entered, Served, Undef, Stopped}

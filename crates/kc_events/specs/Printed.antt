@@ -2,10 +2,10 @@
 use Rattle.std.specs.Prelude.{ℕ, nat_le, if◌then◌else◌, Bool, true}
 use Rattle.kc_base.specs.declared.types.Level.{Level}
 use Rattle.kc_base.specs.declared.types.Level.TheVariants.{Low}
-use Rattle.kc_life.specs.declared.life.Signal.TheVariants.{Output}
-use Rattle.kc_life.specs.declared.levels.Levels.{Levels}
+use Rattle.kc_trace.specs.declared.life.Signal.TheVariants.{Output}
+use Rattle.kc_trace.specs.declared.levels.Levels.{Levels}
 use Rattle.kc_base.specs.Pins.{is_printed}
-use Rattle.kc_life.specs.Tables.{level_in}
+use Rattle.kc_trace.specs.Tables.{level_in}
 use Rattle.kc_events.specs.declared.reader.Stage.{Stage}
 use Rattle.kc_events.specs.declared.reader.Stage.TheVariants.{Over}
 use Rattle.kc_events.specs.Grammar.{Place}

@@ -1,11 +1,11 @@
 -- What a course keeps of a run (this kit's own).
 use Rattle.std.specs.Prelude.{◌≡◌, ℕ, ◌+◌, ◌-◌, ◌≤◌, Bool, true, false, Option, Some, None, List, ◌∷◌}
 use Rattle.kc_base.specs.Limits.{max_states}
-use Rattle.kc_life.specs.declared.life.What.{What}
-use Rattle.kc_life.specs.declared.life.Event.{Event}
-use Rattle.kc_life.specs.declared.levels.Levels.{Levels}
-use Rattle.kc_life.specs.Lives.{State}
-use Rattle.kc_life.specs.Tables.{level_in}
+use Rattle.kc_trace.specs.declared.life.What.{What}
+use Rattle.kc_trace.specs.declared.life.Event.{Event}
+use Rattle.kc_trace.specs.declared.levels.Levels.{Levels}
+use Rattle.kc_trace.specs.Lives.{State}
+use Rattle.kc_trace.specs.Tables.{level_in}
 use Rattle.kc_stim.specs.Drives.{Drives}
 use Rattle.kc_events.specs.declared.line.Line.{Line}
 use Rattle.kc_events.specs.declared.line.Line.TheVariants.{Printed, Restarted}

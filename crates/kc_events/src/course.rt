@@ -1,7 +1,7 @@
 // What happens in the lives of a run, one state at a time.
 ghost use Rattle.std.specs.Prelude.{◌≡◌, ℕ, ◌+◌, ◌-◌, ◌<◌, ◌≤◌, ◌∷◌, [], List, true, false, None, Some, Ok, IfOk, OnOk};
 ghost use Rattle.kc_base.specs.Limits.{max_states};
-ghost use Rattle.kc_life.specs.Tables.{level_in};
+ghost use Rattle.kc_trace.specs.Tables.{level_in};
 ghost use Rattle.kc_stim.specs.Drives.{IsStill};
 ghost use Rattle.kc_events.specs.declared.line.Line.{Line};
 ghost use Rattle.kc_events.specs.Sound.{IsSound};
@@ -13,9 +13,8 @@ ghost use Rattle.kc_events.specs.Underway.{present_in, running_in, state_passed,
 use crate::inputs::{put_edges, start_levels};
 use crate::line::Line;
 use kc_base::{NoMemory, StateTime};
-use kc_life::{Event, Levels, Signal, What};
 use kc_stim::Stimuli;
-use kc_trace::Record;
+use kc_trace::{Event, Levels, Record, Signal, What};
 use std::alloc::Global;
 use std::marker::Model;
 

@@ -1,15 +1,15 @@
 // The levels of inputs, and their edges, by what drives them.
 ghost use Rattle.std.specs.Prelude.{◌≡◌, ◌++◌, ◌==◌, if◌then◌else◌, OnOk};
-ghost use Rattle.kc_life.specs.declared.life.Signal.{Signal};
-ghost use Rattle.kc_life.specs.Signals.{pin_of};
-ghost use Rattle.kc_life.specs.Tables.{level_in};
+ghost use Rattle.kc_trace.specs.declared.life.Signal.{Signal};
+ghost use Rattle.kc_trace.specs.Signals.{pin_of};
+ghost use Rattle.kc_trace.specs.Tables.{level_in};
 ghost use Rattle.kc_stim.specs.Drives.{level_before as level_of_before, wire_to};
 ghost use Rattle.kc_events.specs.Lives.{input_level, input_before, edge_between, edge_if_input, input_edges, start_by, start_levels as levels_at_start};
 
 use crate::reader::is_same;
 use kc_base::{Level, NoMemory, PIN_COUNT, Pin, StateTime};
-use kc_life::{Levels, Signal, What};
 use kc_stim::Stimuli;
+use kc_trace::{Levels, Signal, What};
 
 // The level that the stimuli give a pin in the state before.
 fn level_before(stimuli: &Stimuli, pin: Pin, at: StateTime) -> Level

@@ -10,8 +10,7 @@ ghost use Rattle.kc_events.specs.Grammar.{Place, start_place, same_level, is_in_
 use crate::line::Line;
 use crate::lines::line_of;
 use kc_base::{Edge, Level, MAX_STATES, StateTime};
-use kc_life::{Levels, Signal};
-use kc_trace::Record;
+use kc_trace::{Levels, Record, Signal};
 use std::marker::Model;
 
 /// How far a life has come.

@@ -1,5 +1,5 @@
 // The instructions of sources at their places.
-ghost use Rattle.std.specs.Prelude.{◌≡◌, ◌+◌, ◌-◌, ◌≤◌, ◌++◌, length, map, string_bytes, drop, flat_map, IfOk, OnOk};
+ghost use Rattle.std.specs.Prelude.{◌≡◌, ◌+◌, ◌-◌, ◌≤◌, ◌++◌, length, map, string_bytes, flat_map, IfOk, OnOk};
 ghost use Rattle.kc_base.specs.Limits.{file_limit, image_start};
 ghost use Rattle.kc_link_place.specs.BaseLists.{bases_in};
 ghost use Rattle.kc_link.specs.Placed.{ArePlacedAt};
@@ -161,20 +161,20 @@ fn by_line(own: Vec<Instruction>) -> Result<Vec<Instruction>, NoMemory>
 fn instructions_of(
     alloc: Global,
     text: &[u8],
-    module: &Module,
+    object: &Module,
     bases: &Bases,
     image: &Image,
 ) -> Result<Vec<Instruction>, NoMemory>
     requires short { length text.now ≤ file_limit }
-    requires made { IsModule text.now module.now }
-    ensures { IfOk result (λ own. spec.AreOf text.now image.now module.now bases.now own.items) }
+    requires made { IsModule text.now object.now }
+    ensures { IfOk result (λ own. spec.AreOf text.now image.now object.now bases.now own.items) }
 {
     let spots = match instructions(alloc, text) {
         Ok(spots) => spots,
         Err(SourceFault::NoMemory) => return Err(NoMemory),
         Err(_) => unreachable!(),
     };
-    let base = code_base(module.segments(), bases);
+    let base = code_base(object.segments(), bases);
     by_line(of_statements(alloc, &spots, base, image)?)
 }
 

@@ -1,15 +1,11 @@
 -- A read that has not failed leaves the count of faults as it is.
-use Rattle.std.proofs.Common.{◌≡◌, ℕ, ◌+◌, ◌-◌, ◌^◌, ◌<◌, ◌≤◌, Bool, true, false, List, [], ◌∷◌, inl, inr, refl, ap, ◌∙◌, nat_eq, arith}
+use Rattle.std.proofs.Common.{◌≡◌, ℕ, ◌+◌, ◌-◌, ◌^◌, ◌≤◌, Bool, true, false, List, [], ◌∷◌, inl, inr, refl, ap, ◌∙◌, arith}
 use Rattle.std.specs.Prelude.{IsTrue}
-use Rattle.std.specs.List.{list_any}
 use Rattle.std.proofs.lemmas.Bool.{cases_lt}
 use Rattle.std.proofs.lemmas.Bool.Decides.{nat_tests}
 use Rattle.kc_base.specs.Memory.{faults_in, next_call, is_to_fail}
 use Rattle.kc_base.specs.declared.memory.MemFiles.{MemFiles}
-
-faults_in-miss : (calls : ℕ) (failing : List ℕ) → list_any (λ number. nat_eq number (calls + 1)) failing ≡ false → faults_in (calls + 1) failing ≡ faults_in calls failing
-faults_in-miss calls [] h = cc
-faults_in-miss calls (x ∷ xs) h = grind (arith, nat_tests, faults_in-miss calls xs)
+use Rattle.kc_base.proofs.Faults.{faults_in-miss}
 
 faults_in-up : (calls more : ℕ) (failing : List ℕ) → calls ≤ more → faults_in calls failing ≤ faults_in more failing
 faults_in-up calls more [] h = omega arith

@@ -4,10 +4,10 @@ use Rattle.std.specs.Prelude.{nat_le}
 use Rattle.std.proofs.lemmas.Bool.{leb-true, and_parts}
 use Rattle.kc_base.specs.Limits.{max_states}
 use Rattle.kc_base.specs.declared.types.Level.{Level}
-use Rattle.kc_life.specs.declared.life.Signal.{Signal}
-use Rattle.kc_life.specs.declared.life.What.{What}
-use Rattle.kc_life.specs.declared.life.Event.{Event}
-use Rattle.kc_life.specs.Lives.{Life, State, AreStatesFrom}
+use Rattle.kc_trace.specs.declared.life.Signal.{Signal}
+use Rattle.kc_trace.specs.declared.life.What.{What}
+use Rattle.kc_trace.specs.declared.life.Event.{Event}
+use Rattle.kc_trace.specs.Lives.{Life, State, AreStatesFrom}
 use Rattle.kc_stim.specs.Drives.{Drives}
 use Rattle.kc_base.specs.declared.types.Undefined.{Undefined}
 use Rattle.kc_trace.specs.declared.record.Record.{Record}

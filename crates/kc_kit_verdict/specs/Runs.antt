@@ -1,6 +1,6 @@
 -- What the rules of a file say of a run (this kit's own): the verdict of each over the lives of the run, and of each broken one its line.
 use Rattle.std.specs.Prelude.{ℕ, ◌+◌, Bool, true, false, List, [], ◌∷◌, filter, flat_map, length}
-use Rattle.kc_life.specs.Lives.{Life}
+use Rattle.kc_trace.specs.Lives.{Life}
 use Rattle.kc_rules.specs.declared.rule.Rule.{Rule}
 use Rattle.kc_rules.specs.Lines.{Book}
 use Rattle.kc_events.specs.declared.line.Line.{Line}

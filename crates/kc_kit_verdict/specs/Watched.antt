@@ -1,6 +1,6 @@
 -- How the rules of a file watch a run step by step, and what they have seen of it then (this kit's own).
 use Rattle.std.specs.Prelude.{◌≡◌, ℕ, List, [], ◌∷◌}
-use Rattle.kc_life.specs.Lives.{Life}
+use Rattle.kc_trace.specs.Lives.{Life}
 use Rattle.kc_stim.specs.Drives.{Drives}
 use Rattle.kc_rules.specs.declared.rule.Rule.{Rule}
 use Rattle.kc_rules.specs.Lines.{Book}

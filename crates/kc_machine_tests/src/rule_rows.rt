@@ -1,8 +1,8 @@
 // Lives, rules and their verdicts, worked by hand.
 use kc_base::{Level, Pin};
-use kc_life::{Levels, Signal, What};
 use kc_monitor::{Watch, put_verdict};
 use kc_rules::Rules;
+use kc_trace::{Levels, Signal, What};
 use std::alloc::Global;
 use std::test::*;
 

@@ -2,8 +2,8 @@
 use kc_base::{FILE_LIMIT, Level, PIN_COUNT, Pin};
 use kc_byte_source::MemSource;
 use kc_events::{Lives, LivesFault, Step};
-use kc_life::{Signal, What};
 use kc_stim::Stimuli;
+use kc_trace::{Signal, What};
 use std::alloc::{AllocError, Global};
 use std::test::Fail;
 

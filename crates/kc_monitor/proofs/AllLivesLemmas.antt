@@ -3,9 +3,9 @@ use Rattle.std.proofs.Common.{◌≡◌, ℕ, suc, ◌+◌, ◌<◌, ◌≤◌, 
 use Rattle.std.specs.Prelude.{IfSome}
 use Rattle.std.proofs.Math.Nat.{mod-eq_of_lt}
 use Rattle.kc_base.specs.declared.types.Level.{Level}
-use Rattle.kc_life.specs.declared.life.Signal.{Signal}
-use Rattle.kc_life.specs.Lives.{State, level_after}
-use Rattle.kc_life.specs.Tables.{level_in}
+use Rattle.kc_trace.specs.declared.life.Signal.{Signal}
+use Rattle.kc_trace.specs.Lives.{State, level_after}
+use Rattle.kc_trace.specs.Tables.{level_in}
 use Rattle.kc_rules.specs.declared.mark.Mark.{Mark}
 use Rattle.kc_rules.specs.declared.mark.MarkForm.{MarkForm}
 use Rattle.kc_rules.specs.declared.mark.MarkForm.TheVariants as marks

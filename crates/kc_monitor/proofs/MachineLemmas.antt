@@ -1,8 +1,8 @@
 -- What a machine has reported, with what it has still to report, from state to state.
 use Rattle.std.proofs.Common.{◌≡◌, ℕ, suc, ◌+◌, ◌-◌, ◌<◌, ◌≤◌, Bool, List, [], ◌∷◌, ◌++◌, Option, get_or, drop, length, refl, sym, ap, subst, ◌∙◌, arith, add-one, drop-cons}
 use Rattle.kc_base.specs.declared.types.Level.{Level}
-use Rattle.kc_life.specs.declared.life.Signal.{Signal}
-use Rattle.kc_life.specs.declared.life.What.{What}
+use Rattle.kc_trace.specs.declared.life.Signal.{Signal}
+use Rattle.kc_trace.specs.declared.life.What.{What}
 use Rattle.kc_rules.specs.declared.amount.Share.{Share}
 use Rattle.kc_rules.specs.declared.rule.Shares.{Shares}
 use Rattle.kc_rules.specs.declared.rule.Within.{Within}

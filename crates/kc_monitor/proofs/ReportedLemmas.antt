@@ -7,10 +7,10 @@ use Rattle.std.proofs.lemmas.List.Sums.{fold-append}
 use Rattle.std.proofs.lemmas.List.Elements.{filter-append}
 use Rattle.kc_base.specs.Series.{up_to}
 use Rattle.kc_base.specs.declared.types.Level.{Level}
-use Rattle.kc_life.specs.declared.life.Signal.{Signal}
-use Rattle.kc_life.specs.declared.life.What.{What}
-use Rattle.kc_life.specs.declared.life.Event.{Event}
-use Rattle.kc_life.specs.Lives.{Life, State, events_in, events_of, AreStatesFrom, level_after, level_at, moved_by}
+use Rattle.kc_trace.specs.declared.life.Signal.{Signal}
+use Rattle.kc_trace.specs.declared.life.What.{What}
+use Rattle.kc_trace.specs.declared.life.Event.{Event}
+use Rattle.kc_trace.specs.Lives.{Life, State, events_in, events_of, AreStatesFrom, level_after, level_at, moved_by}
 use Rattle.kc_rules.specs.declared.events.Atom.{Atom}
 use Rattle.kc_rules.specs.declared.mark.Mark.{Mark}
 use Rattle.kc_rules.specs.declared.rule.Form.{Form}

@@ -2,8 +2,8 @@
 use Rattle.std.proofs.Common.{◌≡◌, ℕ, zero, suc, ◌+◌, ◌<◌, Bool, List, [], ◌∷◌, ◌++◌, length, get_or, set, take, drop, refl, sym, ap, subst, ◌∙◌, arith, add-one, drop-cons}
 use Rattle.std.proofs.lemmas.List.{take_more, take_more_set}
 use Rattle.kc_base.specs.declared.types.Level.{Level}
-use Rattle.kc_life.specs.declared.life.Signal.{Signal}
-use Rattle.kc_life.specs.declared.life.What.{What}
+use Rattle.kc_trace.specs.declared.life.Signal.{Signal}
+use Rattle.kc_trace.specs.declared.life.What.{What}
 use Rattle.kc_rules.specs.declared.mark.Mark.{Mark}
 use Rattle.kc_monitor.specs.Marked.{Hit}
 use Rattle.kc_monitor.specs.Seens.{hit_at, is_marked}

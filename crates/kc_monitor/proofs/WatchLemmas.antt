@@ -4,7 +4,7 @@ use Rattle.std.specs.Prelude.{filter, flat_map, IfSome}
 use Rattle.std.proofs.lemmas.Bool.{cases_Bool, cond-true, cond-false, le-leb, lt-leb, lt-ltb, le-ltb, leb-true, leb-false}
 use Rattle.std.proofs.lemmas.List.Elements.{filter-append}
 use Rattle.kc_base.specs.declared.types.Level.{Level}
-use Rattle.kc_life.specs.declared.life.Signal.{Signal}
+use Rattle.kc_trace.specs.declared.life.Signal.{Signal}
 use Rattle.kc_rules.specs.declared.rule.Form.{Form}
 use Rattle.kc_rules.specs.declared.rule.When.{When}
 use Rattle.kc_rules.specs.declared.rule.When.TheVariants as whens

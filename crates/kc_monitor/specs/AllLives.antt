@@ -1,8 +1,8 @@
 -- What all rules of a file have seen of a run: its lives, one after the other (this kit's own).
 use Rattle.std.specs.Prelude.{◌≡◌, ℕ, ◌<◌, ◌^◌, List, [], ◌∷◌}
 use Rattle.kc_base.specs.declared.types.Level.{Level}
-use Rattle.kc_life.specs.declared.life.Signal.{Signal}
-use Rattle.kc_life.specs.Lives.{Life, State, AreStatesFrom}
+use Rattle.kc_trace.specs.declared.life.Signal.{Signal}
+use Rattle.kc_trace.specs.Lives.{Life, State, AreStatesFrom}
 use Rattle.kc_monitor.specs.declared.watch.Watch.{Watch}
 use Rattle.kc_monitor.specs.Reported.{life_of, AreStatesUpTo}
 use Rattle.kc_monitor.specs.Watches.{IsBegin, IsState, IsOver}

@@ -4,10 +4,10 @@ use Rattle.std.specs.List.{list_any}
 use Rattle.kc_base.specs.declared.types.Level.{Level}
 use Rattle.kc_base.specs.declared.types.Level.TheVariants.{Low, High}
 use Rattle.kc_base.specs.Levels.{is_high}
-use Rattle.kc_life.specs.declared.life.Signal.{Signal}
-use Rattle.kc_life.specs.declared.life.What.{What}
-use Rattle.kc_life.specs.declared.life.What.TheVariants as whats
-use Rattle.kc_life.specs.Signals.{same_signal}
+use Rattle.kc_trace.specs.declared.life.Signal.{Signal}
+use Rattle.kc_trace.specs.declared.life.What.{What}
+use Rattle.kc_trace.specs.declared.life.What.TheVariants as whats
+use Rattle.kc_trace.specs.Signals.{same_signal}
 use Rattle.kc_rules.specs.declared.events.Way.{Way}
 use Rattle.kc_rules.specs.declared.events.Way.TheVariants.{Rise, Fall, Either}
 use Rattle.kc_rules.specs.declared.events.Wanted.{Wanted}

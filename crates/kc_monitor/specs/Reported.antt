@@ -1,9 +1,9 @@
 -- A life that is reported state by state, and its moments (this kit's own).
 use Rattle.std.specs.Prelude.{ℕ, ◌≤◌, List, [], ◌∷◌, map}
 use Rattle.kc_base.specs.declared.types.Level.{Level}
-use Rattle.kc_life.specs.declared.life.Signal.{Signal}
-use Rattle.kc_life.specs.declared.life.What.{What}
-use Rattle.kc_life.specs.Lives.{Life, State, events_of, level_after}
+use Rattle.kc_trace.specs.declared.life.Signal.{Signal}
+use Rattle.kc_trace.specs.declared.life.What.{What}
+use Rattle.kc_trace.specs.Lives.{Life, State, events_of, level_after}
 use Rattle.kc_rules.specs.declared.mark.Mark.{Mark}
 use Rattle.kc_monitor.specs.Marked.{Hit}
 use Rattle.kc_monitor.specs.Rows.{seens_in, hists_over}

@@ -2,8 +2,8 @@
 -- those that it has seen, the latest first.
 use Rattle.std.specs.Prelude.{ℕ, Bool, List, [], ◌∷◌, ◌++◌}
 use Rattle.kc_base.specs.declared.types.Level.{Level}
-use Rattle.kc_life.specs.declared.life.Signal.{Signal}
-use Rattle.kc_life.specs.declared.life.What.{What}
+use Rattle.kc_trace.specs.declared.life.Signal.{Signal}
+use Rattle.kc_trace.specs.declared.life.What.{What}
 use Rattle.kc_rules.specs.declared.mark.Mark.{Mark}
 use Rattle.kc_monitor.specs.declared.marks.Marking.{Marking}
 use Rattle.kc_monitor.specs.Marked.{Hit}

@@ -1,9 +1,9 @@
 -- What a rule asks of a life (this kit's own): its scope, the positions in it as its form sees them, and what the form asks of these.
 use Rattle.std.specs.Prelude.{ℕ, ◌+◌, min, nat_le, nat_lt, if◌then◌else◌, Bool, true, false, ◌&&◌, Option, Some, None, List, [], ◌∷◌, map, filter}
 use Rattle.kc_base.specs.declared.types.Level.{Level}
-use Rattle.kc_life.specs.declared.life.Signal.{Signal}
-use Rattle.kc_life.specs.declared.life.What.{What}
-use Rattle.kc_life.specs.Lives.{Life, level_at}
+use Rattle.kc_trace.specs.declared.life.Signal.{Signal}
+use Rattle.kc_trace.specs.declared.life.What.{What}
+use Rattle.kc_trace.specs.Lives.{Life, level_at}
 use Rattle.kc_rules.specs.declared.events.Steady.{Steady}
 use Rattle.kc_rules.specs.declared.events.Atom.{Atom}
 use Rattle.kc_rules.specs.declared.mark.Mark.{Mark}

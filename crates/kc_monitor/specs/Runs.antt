@@ -1,7 +1,7 @@
 -- A monitor over all moments of a life (this kit's own).
 use Rattle.std.specs.Prelude.{◌≡◌, ℕ, ◌+◌, ◌<◌, ◌≤◌, ◌^◌, nat_lt, if◌then◌else◌, Bool, Option, Some, None, IfSome, List, [], ◌∷◌}
 use Rattle.kc_base.specs.declared.types.Level.{Level}
-use Rattle.kc_life.specs.declared.life.Signal.{Signal}
+use Rattle.kc_trace.specs.declared.life.Signal.{Signal}
 use Rattle.kc_rules.specs.declared.rule.Form.{Form}
 use Rattle.kc_rules.specs.declared.rule.Rule.{Rule}
 use Rattle.kc_monitor_forms.specs.declared.obligation.Obligation.{Obligation}

@@ -1,9 +1,9 @@
 -- The positions of a life, each with the marks that it has (this kit's own). A mark may be one of the events of a later mark.
 use Rattle.std.specs.Prelude.{ℕ, Bool, List, [], ◌∷◌, ◌++◌, map, fold}
 use Rattle.kc_base.specs.declared.types.Level.{Level}
-use Rattle.kc_life.specs.declared.life.Signal.{Signal}
-use Rattle.kc_life.specs.declared.life.What.{What}
-use Rattle.kc_life.specs.Lives.{Life, level_at}
+use Rattle.kc_trace.specs.declared.life.Signal.{Signal}
+use Rattle.kc_trace.specs.declared.life.What.{What}
+use Rattle.kc_trace.specs.Lives.{Life, level_at}
 use Rattle.kc_rules.specs.declared.events.Atom.{Atom}
 use Rattle.kc_rules.specs.declared.mark.Mark.{Mark}
 use Rattle.kc_rules.specs.declared.mark.MarkForm.{MarkForm}

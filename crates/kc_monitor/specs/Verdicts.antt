@@ -1,6 +1,6 @@
 -- What is known of a rule, by what became of its obligations in all lives (this kit's own).
 use Rattle.std.specs.Prelude.{ℕ, ◌+◌, ◌/◌, ◌%◌, nat_lt, if◌then◌else◌, Bool, false, true, not, ◌&&◌, ◌||◌, Option, Some, None, List, [], ◌∷◌, ◌++◌, codes, decimal}
-use Rattle.kc_life.specs.Lives.{Life}
+use Rattle.kc_trace.specs.Lives.{Life}
 use Rattle.kc_rules.specs.declared.mark.Mark.{Mark}
 use Rattle.kc_rules.specs.declared.rule.Form.{Form}
 use Rattle.kc_rules.specs.declared.rule.Form.TheVariants as forms

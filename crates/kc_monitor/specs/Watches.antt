@@ -1,10 +1,10 @@
 -- How all rules of a file go on together (this kit's own): before the first life, as a life begins, with a state, and as it ends.
 use Rattle.std.specs.Prelude.{◌≡◌, ℕ, List, length, EachIndex, slice_index_or}
 use Rattle.kc_base.specs.declared.types.Level.{Level}
-use Rattle.kc_life.specs.declared.life.Signal.{Signal}
-use Rattle.kc_life.specs.declared.life.What.{What}
-use Rattle.kc_life.specs.Lives.{level_after}
-use Rattle.kc_life.specs.Tables.{level_in}
+use Rattle.kc_trace.specs.declared.life.Signal.{Signal}
+use Rattle.kc_trace.specs.declared.life.What.{What}
+use Rattle.kc_trace.specs.Lives.{level_after}
+use Rattle.kc_trace.specs.Tables.{level_in}
 use Rattle.kc_rules.specs.declared.mark.Mark.{Mark}
 use Rattle.kc_rules.specs.declared.rule.Rule.{Rule}
 use Rattle.kc_monitor_forms.specs.Tallies.{none}

@@ -3,7 +3,7 @@
 use Rattle.std.specs.Prelude.{◌≡◌, ℕ, ◌+◌, ◌<◌, ◌≤◌, ◌^◌, min, nat_le, nat_lt, if◌then◌else◌, Bool, true, false, Option, Some, None, IfSome, List, [], ◌∷◌, map, filter, flat_map}
 use Rattle.std.specs.List.{list_any}
 use Rattle.kc_base.specs.declared.types.Level.{Level}
-use Rattle.kc_life.specs.declared.life.Signal.{Signal}
+use Rattle.kc_trace.specs.declared.life.Signal.{Signal}
 use Rattle.kc_rules.specs.declared.events.Atom.{Atom}
 use Rattle.kc_rules.specs.declared.rule.Form.{Form}
 use Rattle.kc_rules.specs.declared.rule.Form.TheVariants as forms

@@ -1,8 +1,8 @@
 // What a monitor reports of a life is what its rule asks of it.
 ghost use Rattle.std.specs.Prelude.{◌≡◌, ◌+◌, ◌<◌, ◌^◌, ℕ, List, false, length, map, slice_index_or};
 ghost use Rattle.kc_base.specs.declared.types.Level.{Level};
-ghost use Rattle.kc_life.specs.declared.life.Signal.{Signal};
-ghost use Rattle.kc_life.specs.Lives.{State, AreStatesFrom};
+ghost use Rattle.kc_trace.specs.declared.life.Signal.{Signal};
+ghost use Rattle.kc_trace.specs.Lives.{State, AreStatesFrom};
 ghost use Rattle.kc_rules.specs.declared.mark.Mark.{Mark};
 ghost use Rattle.kc_rules.specs.declared.rule.Rule.{Rule};
 ghost use Rattle.kc_monitor_forms.specs.Apart.{Times};

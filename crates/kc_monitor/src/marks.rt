@@ -1,14 +1,14 @@
 // Which events have a mark.
 ghost use Rattle.std.specs.Prelude.{◌≡◌, ◌<◌, ◌^◌, ◌&&◌, ◌==◌, List, ◌∷◌, Some, None, if◌then◌else◌};
-ghost use Rattle.kc_life.specs.Tables.{level_in};
+ghost use Rattle.kc_trace.specs.Tables.{level_in};
 ghost use Rattle.kc_monitor_forms.specs.Tallies.{one_more};
 ghost use Rattle.kc_monitor.specs.Marked.{Hit, is_number};
 ghost use Rattle.kc_monitor.specs.Seens.{hit_at, is_marked};
 ghost use Rattle.kc_monitor.specs.Marking as spec;
 
 use crate::matching::is_one;
-use kc_life::{Levels, What};
 use kc_rules::{Factor, MarkForm};
+use kc_trace::{Levels, What};
 
 /// What a mark has seen of a life.
 #[derive(Clone, Copy)]

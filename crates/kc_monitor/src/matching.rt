@@ -1,11 +1,11 @@
 // Which events an event is.
 ghost use Rattle.std.specs.Prelude.{◌≡◌, false, slice_index_or};
-ghost use Rattle.kc_life.specs.Tables.{level_in};
+ghost use Rattle.kc_trace.specs.Tables.{level_in};
 ghost use Rattle.kc_monitor.specs.Matching as spec;
 
 use kc_base::Level;
-use kc_life::{Levels, Signal, What};
 use kc_rules::{Atom, Steady, Wanted, Way};
+use kc_trace::{Levels, Signal, What};
 use std::marker::Model;
 
 /// Something that happens in a state, with the marks that it has: for each mark, in order, whether it has it.

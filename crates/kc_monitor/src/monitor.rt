@@ -1,6 +1,6 @@
 // A rule over a life: its scope, and the machine of its form.
 ghost use Rattle.std.specs.Prelude.{◌≡◌, ◌<◌, ◌≤◌, ◌+◌, ◌^◌, ℕ, Bool, Option, List, [], ◌∷◌, ◌++◌, Some, true, false, OnOk, IfSome};
-ghost use Rattle.kc_life.specs.Tables.{level_in};
+ghost use Rattle.kc_trace.specs.Tables.{level_in};
 ghost use Rattle.kc_rules.specs.declared.rule.Form.{Form};
 ghost use Rattle.kc_monitor_forms.specs.declared.obligation.Point.{Point};
 ghost use Rattle.kc_monitor_forms.specs.Apart.{Times};
@@ -14,9 +14,9 @@ ghost use Rattle.kc_monitor.specs.Watching.{Moment};
 use crate::machine::Machine;
 use crate::matching::{Seen, holds, is_begin, is_edge, is_one, is_seen};
 use kc_base::NoMemory;
-use kc_life::{Levels, What};
 use kc_monitor_forms::{Point, Tally};
 use kc_rules::{Atom, Form, Rule, When};
+use kc_trace::{Levels, What};
 use std::alloc::Global;
 
 /// What a rule has seen of the lives so far.

@@ -1,6 +1,6 @@
 // All rules of a file over all lives of a run.
 ghost use Rattle.std.specs.Prelude.{◌≡◌, ◌+◌, List, [], length, OnOk, IfOk, EachIndex, slice_index_or};
-ghost use Rattle.kc_life.specs.Tables.{level_in};
+ghost use Rattle.kc_trace.specs.Tables.{level_in};
 ghost use Rattle.kc_monitor.specs.declared.marks.Marking.{Marking};
 ghost use Rattle.kc_monitor.specs.Marked.{Hit};
 ghost use Rattle.kc_monitor.specs.Marking.{fresh};
@@ -13,8 +13,8 @@ use crate::marks::Marking;
 use crate::matching::Seen;
 use crate::monitor::Monitor;
 use kc_base::{NoMemory, StateTime};
-use kc_life::{Levels, What};
 use kc_rules::{Mark, Rule, Rules};
+use kc_trace::{Levels, What};
 use std::alloc::Global;
 
 /// The rules of a file, and what they have seen of the lives so far.

@@ -7,8 +7,8 @@ use Rattle.kc_base.specs.Fields.{pin_of}
 use Rattle.kc_base.specs.Pins.{is_input, is_printed}
 use Rattle.kc_base.specs.declared.types.Level.{Level}
 use Rattle.kc_base.specs.declared.types.Level.TheVariants.{Low, High}
-use Rattle.kc_life.specs.declared.life.Signal.{Signal}
-use Rattle.kc_life.specs.declared.life.Signal.TheVariants.{Output, Input}
+use Rattle.kc_trace.specs.declared.life.Signal.{Signal}
+use Rattle.kc_trace.specs.declared.life.Signal.TheVariants.{Output, Input}
 use Rattle.kc_rules.specs.declared.events.Way.{Way}
 use Rattle.kc_rules.specs.declared.events.Way.TheVariants.{Rise, Fall, Either}
 use Rattle.kc_rules.specs.declared.events.Wanted.{Wanted}

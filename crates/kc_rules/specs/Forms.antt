@@ -2,7 +2,7 @@
 use Rattle.std.specs.Prelude.{ℕ, ◌*◌, ◌^◌, nat_le, if◌then◌else◌, Bool, true, false, ◌||◌, Option, Some, None, option_and_then, List, codes, is_some}
 use Rattle.std.specs.Option.{option_map}
 use Rattle.std.specs.Str.{bytes_eq}
-use Rattle.kc_life.specs.Signals.{same_signal}
+use Rattle.kc_trace.specs.Signals.{same_signal}
 use Rattle.kc_rules.specs.declared.amount.Time.{Time}
 use Rattle.kc_rules.specs.declared.amount.Share.{Share}
 use Rattle.kc_rules.specs.declared.amount.Amount.{Amount}

@@ -1,7 +1,7 @@
 ghost use Rattle.std.specs.Prelude.{◌≡◌, [], ◌∷◌, ◌++◌, OnOk, OnErr};
 
 use kc_base::{Level, NoMemory};
-use kc_life::Signal;
+use kc_trace::Signal;
 use std::alloc::Global;
 use std::marker::Model;
 

@@ -14,7 +14,7 @@ use crate::mark::Mark;
 use crate::numbers::up_to;
 use crate::words::{Words, is};
 use kc_base::{Level, Pin, pin_number};
-use kc_life::Signal;
+use kc_trace::Signal;
 use std::alloc::Global;
 
 fn signal_by_number(outside: bool, pin: u8) -> Option<Signal>

@@ -1,7 +1,8 @@
 // What drives the inputs from a state on.
-ghost use Rattle.std.specs.Prelude.{◌≡◌, ◌≤◌, ◌-◌, ℕ, IfOk, map, filter, nat_le, length, Vec};
+ghost use Rattle.std.specs.Prelude.{◌≡◌, ℕ, IfOk, filter, nat_le};
+ghost use Rattle.std.specs.List.Sorted.{IsNonDecreasing, IsNonDecreasingBy};
 ghost use Rattle.kc_base.specs.Pins.{pin_count};
-ghost use Rattle.kc_stim.specs.Drives.{driven_from, from_on, levels_known};
+ghost use Rattle.kc_stim.specs.Drives.{driven_from, from_on, levels_known, sooner_by as sooner};
 ghost use Rattle.kc_stim.specs.Index.{list_of};
 ghost use Rattle.kc_stim.specs.Later.{edges_from};
 ghost use Rattle.kc_stim.specs.Parts.{drives_in, IsWhole};
@@ -12,24 +13,39 @@ use crate::stimulus::Stimulus;
 use kc_base::{Level, NoMemory, PIN_COUNT, Pin, StateTime};
 use std::alloc::Global;
 
+// A stimulus in states that count from a state on.
+fn sooner_by(at: StateTime, stimulus: &Stimulus) -> Stimulus
+    ensures { result ≡ sooner at stimulus.now }
+{
+    Stimulus {
+        at: stimulus.at.saturating_sub(at),
+        pin: stimulus.pin,
+        level: stimulus.level,
+    }
+}
+
+// The stimuli at or after a state. The first is found by search, so those that are over cost nothing.
+fn not_over(stimuli: &[Stimulus], at: StateTime) -> &[Stimulus]
+    requires { IsNonDecreasingBy (λ s. s.at) stimuli.now }
+    ensures { result.now ≡ filter (λ s. nat_le at s.at) stimuli.now }
+{
+    let first = stimuli.partition_point(|s| s.at < at);
+    &stimuli[first..]
+}
+
 // The stimuli from a state on.
 fn later_stimuli(
     alloc: Global,
     stimuli: &[Stimulus],
     at: StateTime,
 ) -> Result<Vec<Stimulus>, NoMemory>
+    requires { IsNonDecreasingBy (λ s. s.at) stimuli.now }
     ensures { IfOk result (λ later. later.items ≡ from_on at stimuli.now) }
 {
-    let mut later = Vec::new(alloc);
-    for s in stimuli {
-        if s.at >= at {
-            later.push(Stimulus {
-                at: s.at - at,
-                pin: s.pin,
-                level: s.level,
-            })?;
-        }
-    }
+    let later = not_over(stimuli, at)
+        .iter()
+        .map(|s| sooner_by(at, s))
+        .collect(alloc)?;
     Ok(later)
 }
 
@@ -39,13 +55,23 @@ fn later_lists(
     by_pin: &[Vec<Stimulus>],
     at: StateTime,
 ) -> Result<Vec<Vec<Stimulus>>, NoMemory>
+    requires { (pin : ℕ) → IsNonDecreasingBy (λ s. s.at) (list_of by_pin.now pin) }
     ensures { IfOk result (λ later. (pin : ℕ) → list_of later.items pin ≡ from_on at (list_of by_pin.now pin)) }
 {
-    let mut later = Vec::new(alloc);
+    let mut later = Vec::with_capacity(alloc, by_pin.len())?;
     for own in by_pin {
         later.push(later_stimuli(alloc, own.as_slice(), at)?)?;
     }
     Ok(later)
+}
+
+// The states with an edge at or after a state, found in the same way.
+fn edges_not_over(edges: &[StateTime], at: StateTime) -> &[StateTime]
+    requires { IsNonDecreasing edges.now }
+    ensures { result.now ≡ filter (λ e. nat_le at e) edges.now }
+{
+    let first = edges.partition_point(|edge| *edge < at);
+    &edges[first..]
 }
 
 // The states with an edge from a state on.
@@ -54,14 +80,13 @@ fn later_edges(
     edges: &[StateTime],
     at: StateTime,
 ) -> Result<Vec<StateTime>, NoMemory>
+    requires { IsNonDecreasing edges.now }
     ensures { IfOk result (λ later. later.items ≡ edges_from at edges.now) }
 {
-    let mut later = Vec::new(alloc);
-    for edge in edges {
-        if *edge >= at {
-            later.push(*edge - at)?;
-        }
-    }
+    let later = edges_not_over(edges, at)
+        .iter()
+        .map(|edge| edge.saturating_sub(at))
+        .collect(alloc)?;
     Ok(later)
 }
 

@@ -1,3 +1,6 @@
+pub mod Signals
+pub mod Lives
+pub mod Tables
 pub mod Text
 pub mod Printable
 pub mod Counting

@@ -31,10 +31,14 @@ mod instructions;
 #[cfg(test)]
 mod intc;
 #[cfg(test)]
+mod latency;
+#[cfg(test)]
 mod machines;
 mod metronome;
 #[cfg(test)]
 mod notes;
+#[cfg(test)]
+mod requests;
 #[cfg(test)]
 mod rows;
 #[cfg(test)]

@@ -3,7 +3,7 @@ use Rattle.std.proofs.Common.{◌≡◌, ℕ, zero, suc, ◌+◌, ◌<◌, Bool,
 use Rattle.std.specs.List.{range_with_len}
 use Rattle.std.proofs.lemmas.List.Elements.{All-nil, All-cons, All-append}
 use Rattle.kc_base.specs.Pins.{pin_count, is_printed}
-use Rattle.kc_life.specs.declared.life.Signal.TheVariants.{Output, Input}
+use Rattle.kc_trace.specs.declared.life.Signal.TheVariants.{Output, Input}
 use Rattle.kc_stim.specs.Drives.{Drives}
 use Rattle.kc_convert.specs.declared.sample.Sample.{Sample}
 use Rattle.kc_vcd.specs.declared.variable.Variable.{Variable}

@@ -6,7 +6,7 @@ use Rattle.std.proofs.lemmas.Bool.{and_parts, ltb-true}
 use Rattle.kc_base.specs.TextLines.{text_lines}
 use Rattle.kc_base.specs.declared.types.Level.{Level}
 use Rattle.kc_base.proofs.Words.{word-before, word-after, Plain, plain-word, plain_line}
-use Rattle.kc_life.specs.declared.life.Signal.{Signal}
+use Rattle.kc_trace.specs.declared.life.Signal.{Signal}
 use Rattle.kc_vcd.specs.declared.change.Change.{Change}
 use Rattle.kc_vcd.specs.declared.change.Change.TheVariants.{Moves, Takes, Unseen}
 use Rattle.kc_vcd.specs.declared.variable.Variable.{Variable}

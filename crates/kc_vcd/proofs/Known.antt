@@ -7,9 +7,9 @@ use Rattle.kc_base.specs.Pins.{pin_count, pin_name, pin_facts, is_input, is_prin
 use Rattle.kc_base.proofs.PinLemmas.{all_below, each_below, no_facts, input_is_pin}
 use Rattle.kc_base.proofs.Words.{Word, word-from, is_word, word-append}
 use Rattle.kc_base.proofs.Numbers.{word-decimal}
-use Rattle.kc_life.specs.declared.life.Signal.{Signal}
-use Rattle.kc_life.specs.declared.life.Signal.TheVariants.{Output, Input}
-use Rattle.kc_life.specs.Signals.{same_signal, is_signal}
+use Rattle.kc_trace.specs.declared.life.Signal.{Signal}
+use Rattle.kc_trace.specs.declared.life.Signal.TheVariants.{Output, Input}
+use Rattle.kc_trace.specs.Signals.{same_signal, is_signal}
 use Rattle.kc_vcd.specs.declared.variable.Variable.{Variable}
 use Rattle.kc_vcd.specs.declared.variable.Variable.TheVariants.{Wire, Analog, Entry, Transfer, Undefined, Life}
 use Rattle.kc_vcd.specs.Variables.{name_of, signal_number, number_of, code_of}

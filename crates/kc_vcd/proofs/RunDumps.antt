@@ -2,7 +2,7 @@
 use Rattle.std.proofs.Common.{◌≡◌, ℕ, zero, suc, ◌+◌, ◌*◌, ◌/◌, ◌<◌, ◌≤◌, Bool, true, eqb, leb, Some, List, [], refl, sym, ap, subst, ◌∙◌, arith}
 use Rattle.std.specs.Prelude.{slice_get}
 use Rattle.std.proofs.Math.Nat.{lt-div-mul-add, div-le_self}
-use Rattle.kc_life.specs.Lives.{Life}
+use Rattle.kc_trace.specs.Lives.{Life}
 use Rattle.kc_events.specs.Grammar.{start_place}
 use Rattle.kc_events.specs.Lives.{start_levels}
 use Rattle.kc_events.specs.Steps.{Seen, steps_of}
@@ -11,7 +11,7 @@ use Rattle.kc_vcd.specs.Variables.{variables_of}
 use Rattle.kc_vcd.specs.Changes.{changes_by, end_by}
 use Rattle.kc_vcd.specs.Dump.{Shown, state_length, shown_of}
 use Rattle.kc_vcd.specs.Laws.{AreKnown, IsSound, IsEvent, Member, level_behind, count_among}
-use Rattle.kc_life.specs.declared.life.What.{What}
+use Rattle.kc_trace.specs.declared.life.What.{What}
 use Rattle.kc_vcd.specs.declared.variable.Variable.TheVariants.{Entry, Transfer}
 use Rattle.kc_vcd.specs.Variables.{name_of}
 use Rattle.kc_vcd.specs.Reader.{count_described}

@@ -8,12 +8,12 @@ use Rattle.std.proofs.lemmas.List.Sums.{fold-append}
 use Rattle.kc_base.specs.Series.{up_to}
 use Rattle.kc_base.specs.declared.types.Level.{Level}
 use Rattle.kc_base.specs.declared.types.Level.TheVariants.{Low, High}
-use Rattle.kc_life.specs.declared.life.Signal.{Signal}
-use Rattle.kc_life.specs.declared.life.What.{What}
-use Rattle.kc_life.specs.declared.life.What.TheVariants as what
-use Rattle.kc_life.specs.declared.life.Event.{Event}
-use Rattle.kc_life.specs.Signals.{same_signal}
-use Rattle.kc_life.specs.Lives.{Life, State, moved_by, level_after, level_at, events_in, events_of}
+use Rattle.kc_trace.specs.declared.life.Signal.{Signal}
+use Rattle.kc_trace.specs.declared.life.What.{What}
+use Rattle.kc_trace.specs.declared.life.What.TheVariants as what
+use Rattle.kc_trace.specs.declared.life.Event.{Event}
+use Rattle.kc_trace.specs.Signals.{same_signal}
+use Rattle.kc_trace.specs.Lives.{Life, State, moved_by, level_after, level_at, events_in, events_of}
 use Rattle.kc_stim.specs.Drives.{Drives}
 use Rattle.kc_events.specs.Grammar.{same_level}
 use Rattle.kc_events.specs.Lives.{levels_after, start_levels}

@@ -4,10 +4,10 @@ use Rattle.std.specs.Prelude.{slice_get}
 use Rattle.std.proofs.lemmas.Bool.{lt-leb, leb-true, leb-false, ltb-false}
 use Rattle.kc_base.specs.Series.{up_to}
 use Rattle.kc_base.specs.declared.types.Level.{Level}
-use Rattle.kc_life.specs.declared.life.Signal.{Signal}
-use Rattle.kc_life.specs.declared.life.What.{What}
-use Rattle.kc_life.specs.declared.life.What.TheVariants as what
-use Rattle.kc_life.specs.Lives.{Life, State, events_of}
+use Rattle.kc_trace.specs.declared.life.Signal.{Signal}
+use Rattle.kc_trace.specs.declared.life.What.{What}
+use Rattle.kc_trace.specs.declared.life.What.TheVariants as what
+use Rattle.kc_trace.specs.Lives.{Life, State, events_of}
 use Rattle.kc_stim.specs.Drives.{Drives}
 use Rattle.kc_convert.specs.declared.sample.Sample.{Sample}
 use Rattle.kc_convert.specs.Samples.{of_channel, last_value, value_at}

@@ -4,8 +4,8 @@ use Rattle.std.specs.List.{range_with_len}
 use Rattle.std.proofs.lemmas.Bool.{and_parts, cases_lt}
 use Rattle.kc_base.specs.Pins.{pin_count, is_printed}
 use Rattle.kc_base.proofs.PinLemmas.{input_is_pin}
-use Rattle.kc_life.specs.declared.life.Signal.{Signal}
-use Rattle.kc_life.specs.declared.life.Signal.TheVariants.{Output, Input}
+use Rattle.kc_trace.specs.declared.life.Signal.{Signal}
+use Rattle.kc_trace.specs.declared.life.Signal.TheVariants.{Output, Input}
 use Rattle.kc_stim.specs.Drives.{Drives, is_driven}
 use Rattle.kc_base.specs.Pins.{is_input}
 use Rattle.kc_convert.specs.declared.sample.Sample.{Sample}

@@ -4,7 +4,7 @@ use Rattle.std.proofs.lemmas.Bool.{leb-true, ltb-true}
 use Rattle.std.proofs.lemmas.List.Elements.{All-head, All-tail, filter-append}
 use Rattle.kc_base.specs.Series.{up_to}
 use Rattle.kc_base.specs.declared.types.Level.{Level}
-use Rattle.kc_life.specs.declared.life.Signal.{Signal}
+use Rattle.kc_trace.specs.declared.life.Signal.{Signal}
 use Rattle.kc_convert.specs.declared.sample.Sample.{Sample}
 use Rattle.kc_events.specs.Steps.{Seen, Begins, Passes, Ends}
 use Rattle.kc_vcd.specs.declared.change.Change.{Change}

@@ -3,10 +3,10 @@ use Rattle.std.proofs.Common.{◌≡◌, ℕ, ◌-◌, ◌<◌, ◌≤◌, lengt
 use Rattle.std.proofs.lemmas.List.{map-append}
 use Rattle.kc_base.specs.declared.types.Level.{Level}
 use Rattle.kc_base.specs.Series.{up_to}
-use Rattle.kc_life.specs.declared.life.Signal.{Signal}
-use Rattle.kc_life.specs.declared.life.What.{What}
-use Rattle.kc_life.specs.declared.levels.Levels.{Levels}
-use Rattle.kc_life.specs.Tables.{level_in}
+use Rattle.kc_trace.specs.declared.life.Signal.{Signal}
+use Rattle.kc_trace.specs.declared.life.What.{What}
+use Rattle.kc_trace.specs.declared.levels.Levels.{Levels}
+use Rattle.kc_trace.specs.Tables.{level_in}
 use Rattle.kc_convert.specs.declared.sample.Sample.{Sample}
 use Rattle.kc_events.specs.Lives.{levels_after}
 use Rattle.kc_events.specs.Steps.{Seen, Begins, Passes, Ends}

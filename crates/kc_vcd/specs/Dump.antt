@@ -1,7 +1,7 @@
 -- A run as a value change dump (IEEE 1364, "Value change dump files"; what it shows and how it is called is this kit's own).
 use Rattle.std.specs.Prelude.{ℕ, true, ◌+◌, ◌*◌, ◌/◌, ◌%◌, ◌^◌, ◌==◌, if◌then◌else◌, List, [], ◌∷◌, ◌++◌, codes, decimal, flat_map, map}
 use Rattle.kc_base.specs.declared.types.Level.{Level}
-use Rattle.kc_life.specs.declared.life.Signal.{Signal}
+use Rattle.kc_trace.specs.declared.life.Signal.{Signal}
 use Rattle.kc_stim.specs.Drives.{Drives}
 use Rattle.kc_convert.specs.declared.sample.Sample.{Sample}
 use Rattle.kc_trace.specs.Text.{level_digit}

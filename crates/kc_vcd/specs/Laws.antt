@@ -2,8 +2,8 @@
 use Rattle.std.specs.Prelude.{◌≡◌, ℕ, ◌*◌, ◌^◌, ◌<◌, ◌≤◌, ◌==◌, if◌then◌else◌, Bool, true, false, Some, ◌⊎◌, List, [], ◌∷◌, filter, length, map}
 use Rattle.kc_base.specs.Series.{up_to}
 use Rattle.kc_base.specs.declared.types.Level.{Level}
-use Rattle.kc_life.specs.declared.life.Signal.{Signal}
-use Rattle.kc_life.specs.Signals.{same_signal, is_signal}
+use Rattle.kc_trace.specs.declared.life.Signal.{Signal}
+use Rattle.kc_trace.specs.Signals.{same_signal, is_signal}
 use Rattle.kc_events.specs.Steps.{Seen}
 use Rattle.kc_vcd.specs.declared.change.Change.{Change}
 use Rattle.kc_vcd.specs.declared.change.Change.TheVariants.{Moves, Takes, Happens, Unseen}

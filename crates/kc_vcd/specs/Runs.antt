@@ -2,11 +2,11 @@
 use Rattle.std.specs.Prelude.{◌≡◌, ℕ, ◌+◌, ◌*◌, ◌<◌, ◌≤◌, ◌==◌, Some, true, Bool, false, ◌&&◌, List, filter, length, slice_get, sum, map, take}
 use Rattle.kc_base.specs.Limits.{entry_count, transfer_count}
 use Rattle.kc_base.specs.Pins.{is_printed}
-use Rattle.kc_life.specs.declared.life.Signal.{Signal}
-use Rattle.kc_life.specs.declared.life.Signal.TheVariants.{Output, Input}
-use Rattle.kc_life.specs.declared.life.What.{What}
-use Rattle.kc_life.specs.declared.life.What.TheVariants as what
-use Rattle.kc_life.specs.Lives.{Life, level_at}
+use Rattle.kc_trace.specs.declared.life.Signal.{Signal}
+use Rattle.kc_trace.specs.declared.life.Signal.TheVariants.{Output, Input}
+use Rattle.kc_trace.specs.declared.life.What.{What}
+use Rattle.kc_trace.specs.declared.life.What.TheVariants as what
+use Rattle.kc_trace.specs.Lives.{Life, level_at}
 use Rattle.kc_stim.specs.Drives.{Drives}
 use Rattle.kc_convert.specs.declared.sample.Sample.{Sample}
 use Rattle.kc_convert.specs.Samples.{channel_count, value_at, AreOfFile}

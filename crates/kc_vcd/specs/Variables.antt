@@ -8,9 +8,9 @@ use Rattle.std.specs.Prelude.{ℕ, ◌+◌, ◌%◌, ◌<◌, ◌==◌, if◌the
 use Rattle.std.specs.List.{range_with_len, list_any}
 use Rattle.kc_base.specs.Limits.{entry_count, transfer_count}
 use Rattle.kc_base.specs.Pins.{IsPin, pin_count, pin_name, is_printed, is_input}
-use Rattle.kc_life.specs.declared.life.Signal.{Signal}
-use Rattle.kc_life.specs.declared.life.Signal.TheVariants.{Output, Input}
-use Rattle.kc_life.specs.Signals.{pin_of}
+use Rattle.kc_trace.specs.declared.life.Signal.{Signal}
+use Rattle.kc_trace.specs.declared.life.Signal.TheVariants.{Output, Input}
+use Rattle.kc_trace.specs.Signals.{pin_of}
 use Rattle.kc_stim.specs.Drives.{Drives, is_driven}
 use Rattle.kc_convert.specs.declared.sample.Sample.{Sample}
 use Rattle.kc_convert.specs.Samples.{channel_count}

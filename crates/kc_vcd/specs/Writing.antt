@@ -1,7 +1,7 @@
 -- A dump that is written step by step (this kit's own).
 use Rattle.std.specs.Prelude.{◌≡◌, ℕ, Bool, true, List, ◌++◌}
-use Rattle.kc_life.specs.declared.levels.Levels.{Levels}
-use Rattle.kc_life.specs.Tables.{level_in}
+use Rattle.kc_trace.specs.declared.levels.Levels.{Levels}
+use Rattle.kc_trace.specs.Tables.{level_in}
 use Rattle.kc_convert.specs.declared.sample.Sample.{Sample}
 use Rattle.kc_events.specs.Steps.{Seen}
 use Rattle.kc_vcd.specs.declared.variable.Variable.{Variable}

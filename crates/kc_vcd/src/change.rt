@@ -6,7 +6,7 @@ ghost use Rattle.kc_vcd.specs.Dump.{change_text};
 use crate::variable::Variable;
 use crate::writing::{put_event, put_level, put_value};
 use kc_base::{Level, NoMemory};
-use kc_life::{Signal, What};
+use kc_trace::{Signal, What};
 
 /// What changes: a signal takes a level, an analogue input takes a value, this happens; or what no variable shows.
 #[derive(Clone, Copy)]

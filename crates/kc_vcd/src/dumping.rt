@@ -1,7 +1,7 @@
 // A run as a value change dump, written as its steps are read.
 ghost use Rattle.std.specs.Prelude.{◌≡◌, ◌≤◌, ℕ, ◌∷◌, [], map, List, None, IfOk, IfSome, OnOk};
 ghost use Rattle.kc_base.specs.Series.{up_to};
-ghost use Rattle.kc_life.specs.Tables.{level_in};
+ghost use Rattle.kc_trace.specs.Tables.{level_in};
 ghost use Rattle.kc_events.specs.Steps.{Seen, Begins, Passes, Ends};
 ghost use Rattle.kc_events.specs.Grammar.{same_level};
 ghost use Rattle.kc_events.specs.Reporting.{AreToCome, IsWrongAt, IfWrong, Counts};
@@ -20,8 +20,8 @@ use kc_base::{Level, NoMemory, StateTime};
 use kc_byte_source::Source;
 use kc_convert::{Analog, Sample};
 use kc_events::{Lives, LivesFault, Step};
-use kc_life::{Levels, Signal, What};
 use kc_stim::Stimuli;
+use kc_trace::{Levels, Signal, What};
 use std::alloc::Global;
 use std::marker::Model;
 

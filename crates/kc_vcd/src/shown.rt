@@ -1,6 +1,6 @@
 // What a dump shows of a run.
 ghost use Rattle.std.specs.Prelude.{◌≡◌, ◌≤◌, ◌++◌, ◌∷◌, [], All, IfOk, OnOk};
-ghost use Rattle.kc_life.specs.Tables.{level_in};
+ghost use Rattle.kc_trace.specs.Tables.{level_in};
 ghost use Rattle.kc_base.specs.Pins.{pin_count};
 ghost use Rattle.kc_base.specs.Limits.{entry_count, transfer_count};
 ghost use Rattle.kc_convert.specs.Samples.{channel_count};
@@ -13,8 +13,8 @@ use crate::writing::{put_declaration, put_level, put_value};
 use kc_base::{ENTRY_COUNT, NoMemory, PIN_COUNT, Pin, TRANSFER_COUNT};
 use kc_convert::{Analog, CHANNEL_COUNT, Sample};
 use kc_events::start_levels;
-use kc_life::{Levels, Signal};
 use kc_stim::Stimuli;
+use kc_trace::{Levels, Signal};
 use std::alloc::Global;
 use std::marker::Model;
 

@@ -1,11 +1,11 @@
 // The variables of a dump.
 ghost use Rattle.std.specs.Prelude.{◌≡◌, ◌<◌, ◌++◌, decimal, OnOk};
 ghost use Rattle.kc_base.specs.Pins.{IsPin, pin_name};
-ghost use Rattle.kc_life.specs.Signals.{pin_of};
+ghost use Rattle.kc_trace.specs.Signals.{pin_of};
 ghost use Rattle.kc_vcd.specs.Variables.{signal_name, name_of, signal_number as number_of_signal, number_of, code_of, IsVariable};
 
 use kc_base::{NoMemory, Pin, put_number};
-use kc_life::Signal;
+use kc_trace::Signal;
 
 /// A variable of a dump: the level of a signal, the value of an analogue input, or what happens: an entry through the vector of a
 /// request, a cycle of the transfer server for one, an undefined use, or a life that begins behind another one.

@@ -6,8 +6,7 @@ ghost use Rattle.kc_vcd.specs.Dump.{type_of, declaration, level_line, digits, si
 
 use crate::variable::Variable;
 use kc_base::{Level, NoMemory, StateTime, put_number};
-use kc_life::Signal;
-use kc_trace::level_digit;
+use kc_trace::{Signal, level_digit};
 
 fn type_text(variable: Variable) -> &'static [u8]
     ensures { result.now ≡ type_of variable }

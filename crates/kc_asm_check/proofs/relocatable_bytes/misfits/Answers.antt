@@ -1,5 +1,5 @@
 use Rattle.std.proofs.Common.{◌∙◌, ap, refl}
-use Rattle.kc_asm_bytes.specs.declared.relocatable_byte.RelocatableByte.TheVariants.{Plain}
+use Rattle.kc_asm_encode.specs.declared.relocatable_byte.RelocatableByte.TheVariants.{Plain}
 use Rattle.kc_lex.specs.Codes.{lesser_number}
 use Rattle.kc_asm_check.specs.Codes.{examined}
 use Rattle.kc_asm_check.proofs.RelocatableByteLemmas.{advances, ends}

@@ -1,7 +1,7 @@
 use Rattle.std.proofs.Common.{sym, subst, List}
 use Rattle.std.specs.List.{All}
-use Rattle.kc_asm_bytes.specs.declared.relocatable_byte.RelocatableByte.{RelocatableByte}
-use Rattle.kc_asm_bytes.specs.Relocating.{HasRoom}
+use Rattle.kc_asm_encode.specs.declared.relocatable_byte.RelocatableByte.{RelocatableByte}
+use Rattle.kc_asm_encode.specs.Relocating.{HasRoom}
 use Rattle.kc_asm_encode.proofs.Most.{relocatables_have_room}
 use Rattle.kc_asm_encode.proofs.relocatable_bytes.relocatables_of.Goals as goal
 

@@ -1,6 +1,6 @@
 use Rattle.std.proofs.Common.{◌≡◌, ◌++◌, List, sym, ap, ◌∙◌, append_assoc, rules}
-use Rattle.kc_life.specs.declared.life.What.{What}
-use Rattle.kc_life.specs.Tables.{level_in}
+use Rattle.kc_trace.specs.declared.life.What.{What}
+use Rattle.kc_trace.specs.Tables.{level_in}
 use Rattle.kc_events.specs.Lives.{edge_if_input}
 use Rattle.kc_events.proofs.InputLemmas.{edges_below, edges-more, edges-all}
 use Rattle.kc_events.proofs.inputs.put_edges.Goals as goal

@@ -1,5 +1,5 @@
 use Rattle.std.proofs.Common.{◌≡◌, ◌++◌}
-use Rattle.kc_life.specs.Tables.{level_in}
+use Rattle.kc_trace.specs.Tables.{level_in}
 use Rattle.kc_events.proofs.InputLemmas.{edges_below}
 use Rattle.kc_events.proofs.inputs.put_edges.Given as goal
 

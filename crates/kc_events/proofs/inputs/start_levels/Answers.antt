@@ -1,5 +1,5 @@
 use Rattle.std.proofs.Common.{◌≡◌, rules}
-use Rattle.kc_life.specs.Tables.{level_in}
+use Rattle.kc_trace.specs.Tables.{level_in}
 use Rattle.kc_events.proofs.InputLemmas.{all_start}
 use Rattle.kc_events.proofs.inputs.start_levels.Goals as goal
 

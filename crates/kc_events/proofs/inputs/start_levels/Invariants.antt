@@ -1,8 +1,8 @@
 use Rattle.std.proofs.Common.{◌≡◌, ◌<◌, ◌≤◌}
 use Rattle.kc_base.specs.declared.types.Level.TheVariants.{Low}
-use Rattle.kc_life.specs.declared.life.Signal.{Signal}
-use Rattle.kc_life.specs.Signals.{pin_of}
-use Rattle.kc_life.specs.Tables.{level_in}
+use Rattle.kc_trace.specs.declared.life.Signal.{Signal}
+use Rattle.kc_trace.specs.Signals.{pin_of}
+use Rattle.kc_trace.specs.Tables.{level_in}
 use Rattle.kc_events.specs.Lives.{start_levels}
 use Rattle.kc_events.proofs.inputs.start_levels.Given as goal
 

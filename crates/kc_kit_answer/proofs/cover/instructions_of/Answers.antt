@@ -8,7 +8,7 @@ use Rattle.kc_kit_answer.proofs.cover.instructions_of.Goals as goal
 pub returns : goal.returns
 returns c =
     let image = c.args.image.now in
-    let m = c.args.module.now in
+    let m = c.args.object.now in
     let bases = c.args.bases.now in
     let spots = c.in-Ok.spots.items in
     let base = c.code_base-base.ensures ∙ ap (λ s. code_base s (bases_in bases)) c.segments.ensures in

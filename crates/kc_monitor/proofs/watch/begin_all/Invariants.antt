@@ -1,5 +1,5 @@
 use Rattle.std.proofs.Common.{◌≡◌, length, take, drop}
-use Rattle.kc_life.specs.Tables.{level_in}
+use Rattle.kc_trace.specs.Tables.{level_in}
 use Rattle.kc_monitor.specs.Watching.{AllThree, IsStart}
 use Rattle.kc_monitor.proofs.watch.begin_all.Given as goal
 

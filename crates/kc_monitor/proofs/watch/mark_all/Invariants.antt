@@ -1,5 +1,5 @@
 use Rattle.std.proofs.Common.{◌≡◌, List, length, take, drop}
-use Rattle.kc_life.specs.Tables.{level_in}
+use Rattle.kc_trace.specs.Tables.{level_in}
 use Rattle.kc_monitor.specs.Marked.{Hit}
 use Rattle.kc_monitor.specs.Rows.{row, hists_after, IsTrack}
 use Rattle.kc_monitor.specs.Watching.{AllThree}

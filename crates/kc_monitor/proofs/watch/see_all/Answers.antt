@@ -1,10 +1,10 @@
 use Rattle.std.proofs.Common.{◌≡◌, ◌∷◌, ◌++◌, ◌+◌, [], get_or, take, sym, ap, subst, ◌∙◌, arith}
 use Rattle.std.proofs.lemmas.List.{take_more}
-use Rattle.kc_life.specs.Tables.{level_in}
+use Rattle.kc_trace.specs.Tables.{level_in}
 use Rattle.kc_base.specs.declared.types.Level.TheVariants.{Low}
-use Rattle.kc_life.specs.declared.life.Signal.TheVariants.{Output}
-use Rattle.kc_life.specs.declared.life.What.{What}
-use Rattle.kc_life.specs.declared.life.What.TheVariants.{Edge}
+use Rattle.kc_trace.specs.declared.life.Signal.TheVariants.{Output}
+use Rattle.kc_trace.specs.declared.life.What.{What}
+use Rattle.kc_trace.specs.declared.life.What.TheVariants.{Edge}
 use Rattle.kc_monitor.specs.Rows.{row, hists_after, seens_in, hists_over, seen_now, IsTrack}
 use Rattle.kc_monitor.specs.Watching.{AllThree}
 use Rattle.kc_monitor.proofs.RowLemmas.{seens_push, hists_push, seens_none, hists_none}

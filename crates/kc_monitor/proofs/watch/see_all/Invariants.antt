@@ -1,5 +1,5 @@
 use Rattle.std.proofs.Common.{◌≡◌, List, take}
-use Rattle.kc_life.specs.Tables.{level_in}
+use Rattle.kc_trace.specs.Tables.{level_in}
 use Rattle.kc_monitor.specs.Marked.{Hit}
 use Rattle.kc_monitor.specs.Rows.{seens_in, hists_over, IsTrack}
 use Rattle.kc_monitor.specs.Watching.{AllThree}

@@ -1,5 +1,5 @@
 use Rattle.std.proofs.Common.{length, ap, ◌∙◌, refl, arith}
-use Rattle.kc_life.specs.Tables.{level_in}
+use Rattle.kc_trace.specs.Tables.{level_in}
 use Rattle.kc_monitor.specs.Watching.{IsStep}
 use Rattle.kc_monitor.proofs.StepLemmas.{three_none, three_more, three_rest, drop_next}
 use Rattle.kc_monitor.proofs.watch.state_all.Goals as goal

@@ -1,9 +1,16 @@
-use Rattle.std.proofs.Common.{◌∙◌, ap}
-use Rattle.kc_stim.specs.Drives.{from_on}
+use Rattle.std.proofs.Common.{◌≡◌, ◌==◌, ◌∙◌, ap, sym, subst}
+use Rattle.std.specs.List.Sorted.{IsNonDecreasingBy}
+use Rattle.std.proofs.lemmas.List.Kept.{IsNonDecreasingBy-filter}
+use Rattle.kc_stim.specs.Drives.{from_on, of_pin}
 use Rattle.kc_stim.specs.Index.{list_of}
 use Rattle.kc_stim.specs.Parts.{drives_in}
 use Rattle.kc_stim.proofs.LaterLaws.{indexed_later}
 use Rattle.kc_stim.proofs.later.from_state.Goals as goal
+
+pub later_lists-requires : goal.later_lists-requires
+later_lists-requires c pin =
+    let own : list_of c.as_slice-3.result.now pin ≡ of_pin pin c.args.index.now.stimuli.items = ap (λ lists. list_of lists pin) c.as_slice-3.ensures.value ∙ c.requires.whole.lists pin in
+    subst (λ l. IsNonDecreasingBy (λ s. s.at) l) (sym own) (IsNonDecreasingBy-filter (λ s. s.at) (λ s. s.pin.0 == pin) c.args.index.now.stimuli.items c.requires.whole.rise)
 
 pub returns-clause-whole : goal.returns-clause-whole
 returns-clause-whole c =

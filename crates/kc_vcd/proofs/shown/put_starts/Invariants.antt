@@ -1,5 +1,5 @@
 use Rattle.std.proofs.Common.{◌≡◌, ◌++◌, length}
-use Rattle.kc_life.specs.Tables.{level_in}
+use Rattle.kc_trace.specs.Tables.{level_in}
 use Rattle.kc_vcd.specs.Dump.{start_lines}
 use Rattle.kc_vcd.proofs.shown.put_starts.Given as goal
 

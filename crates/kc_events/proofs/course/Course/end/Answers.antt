@@ -1,7 +1,7 @@
 use Rattle.std.proofs.Common.{◌≡◌, ◌++◌, ◌+◌, true, false, List, refl, sym, ap, ◌∙◌, rules}
 use Rattle.std.proofs.lemmas.Result.{on_ok_weaker}
-use Rattle.kc_life.specs.declared.life.What.{What}
-use Rattle.kc_life.specs.Tables.{level_in}
+use Rattle.kc_trace.specs.declared.life.What.{What}
+use Rattle.kc_trace.specs.Tables.{level_in}
 use Rattle.kc_events.specs.Lives.{input_edges}
 use Rattle.kc_events.specs.Coming.{Present, others_of}
 use Rattle.kc_events.proofs.StepLemmas.{start_is, start_rest}

@@ -1,6 +1,6 @@
 use Rattle.std.proofs.Common.{◌++◌, false, List, refl, ap, ◌∙◌}
-use Rattle.kc_life.specs.declared.life.What.{What}
-use Rattle.kc_life.specs.Tables.{level_in}
+use Rattle.kc_trace.specs.declared.life.What.{What}
+use Rattle.kc_trace.specs.Tables.{level_in}
 use Rattle.kc_events.specs.Lives.{input_edges}
 use Rattle.kc_events.specs.Coming.{Present}
 use Rattle.kc_events.proofs.StepLemmas.{start_is}

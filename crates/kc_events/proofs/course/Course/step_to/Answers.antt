@@ -1,5 +1,5 @@
 use Rattle.std.proofs.Common.{◌≡◌, ◌++◌, ◌-◌, false, true, Ok, Some, None, List, [], ◌∷◌, sym, subst, rules}
-use Rattle.kc_life.specs.declared.life.What.{What}
+use Rattle.kc_trace.specs.declared.life.What.{What}
 use Rattle.kc_events.specs.declared.course.Step.TheVariants as step
 use Rattle.kc_events.specs.Underway.{Underway, GoesIfAhead, Gives, ReportsNone}
 use Rattle.kc_events.proofs.StepLemmas.{begins, event_passes, event_happens}

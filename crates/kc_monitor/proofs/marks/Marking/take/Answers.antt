@@ -1,6 +1,6 @@
 use Rattle.std.proofs.Common.{◌≡◌, ◌&&◌, ap, ◌∙◌}
 use Rattle.std.specs.Prelude.{◌==◌, if◌then◌else◌}
-use Rattle.kc_life.specs.Tables.{level_in}
+use Rattle.kc_trace.specs.Tables.{level_in}
 use Rattle.kc_rules.specs.declared.mark.MarkForm.TheVariants as forms
 use Rattle.kc_monitor_forms.specs.Tallies.{one_more}
 use Rattle.kc_monitor.specs.Matching.{is_one}

@@ -1,5 +1,5 @@
 use Rattle.std.proofs.Common.{◌≡◌, ◌++◌, ◌+◌, refl, sym, ap, ◌∙◌, arith}
-use Rattle.kc_life.specs.Tables.{level_in}
+use Rattle.kc_trace.specs.Tables.{level_in}
 use Rattle.kc_monitor.specs.Watching.{points_at, one_at, other_at}
 use Rattle.kc_monitor.proofs.MachineLemmas.{same_machine, ready_by}
 use Rattle.kc_monitor.proofs.monitor.Monitor.follow.Goals as goal

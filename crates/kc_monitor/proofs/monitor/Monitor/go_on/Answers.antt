@@ -1,7 +1,7 @@
 use Rattle.std.proofs.Common.{◌≡◌, ◌∷◌, ◌<◌, ◌+◌, Some, None, true, false, refl, sym, ap, ◌∙◌, arith}
 use Rattle.std.specs.Prelude.{IfSome}
 use Rattle.std.proofs.lemmas.Bool.{false_from_ne_true}
-use Rattle.kc_life.specs.Tables.{level_in}
+use Rattle.kc_trace.specs.Tables.{level_in}
 use Rattle.kc_monitor_forms.specs.Machines.{IsOrderedFrom}
 use Rattle.kc_monitor.specs.Watching.{Moment, moment, points_in, total_in}
 use Rattle.kc_monitor.proofs.MachineLemmas.{ready_by, ready_later, same_machine}

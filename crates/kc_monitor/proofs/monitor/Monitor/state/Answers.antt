@@ -1,6 +1,6 @@
 use Rattle.std.proofs.Common.{◌≡◌, ◌∷◌, ◌≤◌, ◌+◌, sym, ap, ◌∙◌, inl, inr, arith}
 use Rattle.std.proofs.lemmas.Bool.{cond-true, cond-false}
-use Rattle.kc_life.specs.Tables.{level_in}
+use Rattle.kc_trace.specs.Tables.{level_in}
 use Rattle.kc_monitor.specs.Watching.{Moment, moment, AreMomentsFrom, AreKept, IsGoing, total_in, first_in, end_in}
 use Rattle.kc_monitor.proofs.WatchLemmas.{total_past, end_reported, end_later, end_ahead, first_goes, first_is, from_stays, from_ahead}
 use Rattle.kc_monitor.proofs.monitor.Monitor.state.Goals as goal

@@ -1,6 +1,6 @@
 use Rattle.std.proofs.Common.{◌≡◌, ◌∷◌, ◌++◌, ◌+◌, ◌≤◌, [], drop, refl, sym, ap, ◌∙◌, arith}
 use Rattle.std.proofs.lemmas.List.{drop_all}
-use Rattle.kc_life.specs.Tables.{level_in}
+use Rattle.kc_trace.specs.Tables.{level_in}
 use Rattle.kc_monitor_forms.specs.Machines.{IsOrderedFrom}
 use Rattle.kc_monitor.specs.Machines.{machine_total}
 use Rattle.kc_monitor.specs.Rules.{point_at}

@@ -1,5 +1,5 @@
 use Rattle.std.proofs.Common.{◌≡◌, ◌≤◌, ◌++◌, ℕ, List, Bool, drop}
-use Rattle.kc_life.specs.Tables.{level_in}
+use Rattle.kc_trace.specs.Tables.{level_in}
 use Rattle.kc_monitor_forms.specs.declared.obligation.Point.{Point}
 use Rattle.kc_monitor_forms.specs.Apart.{Times}
 use Rattle.kc_monitor_forms.specs.Machines.{IsOrderedFrom}

@@ -1,5 +1,5 @@
 use Rattle.std.proofs.Common.{false, subst, ap, ◌∙◌}
-use Rattle.kc_life.specs.Tables.{level_in}
+use Rattle.kc_trace.specs.Tables.{level_in}
 use Rattle.kc_vcd.specs.Changes.{all_at, beginning, differences}
 use Rattle.kc_vcd.specs.Writing.{Written, HasChanged, with_steps}
 use Rattle.kc_vcd.proofs.Written.{reported_begin}

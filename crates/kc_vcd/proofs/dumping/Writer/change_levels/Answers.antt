@@ -1,4 +1,4 @@
-use Rattle.kc_life.specs.Tables.{level_in}
+use Rattle.kc_trace.specs.Tables.{level_in}
 use Rattle.kc_vcd.proofs.Written.{levels_step, levels_over, life_after}
 use Rattle.kc_vcd.proofs.dumping.Writer.change_levels.Goals as goal
 

@@ -1,5 +1,5 @@
 use Rattle.std.proofs.Common.{◌≡◌, ℕ, List, ◌++◌, length}
-use Rattle.kc_life.specs.Tables.{level_in}
+use Rattle.kc_trace.specs.Tables.{level_in}
 use Rattle.kc_vcd.specs.Changes.{Timed, all_at, differences}
 use Rattle.kc_vcd.specs.Writing.{with_changes, IsSameLife}
 use Rattle.kc_vcd.proofs.dumping.Writer.change_levels.Given as goal

@@ -1,7 +1,7 @@
 use Rattle.std.proofs.Common.{map, subst, ap, ◌∙◌}
-use Rattle.kc_life.specs.declared.levels.Levels.{Levels}
-use Rattle.kc_life.specs.Lives.{level_after}
-use Rattle.kc_life.specs.Tables.{level_in}
+use Rattle.kc_trace.specs.declared.levels.Levels.{Levels}
+use Rattle.kc_trace.specs.Lives.{level_after}
+use Rattle.kc_trace.specs.Tables.{level_in}
 use Rattle.kc_vcd.specs.Changes.{all_at, change_by, later}
 use Rattle.kc_vcd.specs.Writing.{Written, HasChanged, with_steps}
 use Rattle.kc_vcd.proofs.Written.{reported_pass}

@@ -1,5 +1,5 @@
 use Rattle.std.proofs.Common.{◌++◌, codes, ap, ◌∙◌}
-use Rattle.kc_life.specs.Tables.{level_in}
+use Rattle.kc_trace.specs.Tables.{level_in}
 use Rattle.kc_vcd.specs.Dump.{head, head_end, declarations, start_lines}
 use Rattle.kc_vcd.specs.Writing.{Kept}
 use Rattle.kc_vcd.proofs.Pieces.{five_put}

@@ -1,4 +1,0 @@
-pub mod FillLemmas
-pub mod GivenLemmas
-pub mod NamedLemmas
-pub mod PassLemmas

@@ -1,0 +1,8 @@
+mod Choice
+mod Ways
+mod Begins
+mod Owes
+mod Goes
+mod Gaps
+mod PriceLemmas
+mod CheckLemmas

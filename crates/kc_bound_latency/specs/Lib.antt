@@ -1,0 +1,4 @@
+pub mod Asking
+pub mod Latency
+pub mod Gaps
+pub mod Times

@@ -1,3 +1,0 @@
-pub mod Signals
-pub mod Lives
-pub mod Tables

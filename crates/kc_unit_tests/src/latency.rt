@@ -1,0 +1,103 @@
+// The longest time in which no interrupt is asked for, in the passes through routines, by a model that was written apart.
+use kc_base::{Image, NoMemory};
+use kc_bound::{Loop, Moved, Notes};
+use kc_bound_latency::{checked, find};
+use kc_bound_requests::{ENTERED, EnabledSet};
+use std::alloc::Global;
+use std::test::Fail;
+
+/// A program in parts, each with its address.
+static PROGRAM: [(u16, &[u8]); 7] = [
+    // CMP 30H,[32H]; JE 210AH; ADD 34H,30H,#1; RET
+    (
+        0x2100,
+        &[
+            0x8A, 0x32, 0x30, 0xDF, 0x05, 0x45, 0x01, 0x00, 0x30, 0x34, 0xF0,
+        ],
+    ),
+    // LDB 30H,#3; NOP; SCALL 2115H; DJNZ 30H,210EH; RET
+    (
+        0x210B,
+        &[0xB1, 0x03, 0x30, 0xFD, 0x28, 0x04, 0xE0, 0x30, 0xFA, 0xF0],
+    ),
+    // LDB 31H,#4; INC 36H; DJNZ 31H,2118H; RET
+    (
+        0x2115,
+        &[0xB1, 0x04, 0x31, 0x07, 0x36, 0xE0, 0x31, 0xFB, 0xF0],
+    ),
+    // PUSHA; JBS 15H,7,213AH; SHL 40H,42H; POPA; RET
+    (
+        0x2139,
+        &[0xF4, 0x3F, 0x15, 0xFD, 0x09, 0x42, 0x40, 0xF5, 0xF0],
+    ),
+    // DI; INC 36H; EI; NOP; SJMP 2143H
+    (0x2143, &[0xFA, 0x07, 0x36, 0xFB, 0xFD, 0x27, 0xF9]),
+    // LDB 30H,#0; PUSHA; POPA; RET
+    (0x2160, &[0xB1, 0x00, 0x30, 0xF4, 0xF5, 0xF0]),
+    // EPTS; BMOVI 38H,3CH; RET
+    (0x2170, &[0xED, 0xCD, 0x3C, 0x38, 0xF0]),
+];
+
+fn program(alloc: Global) -> Result<Image, NoMemory> {
+    let mut image = Image::blank(alloc)?;
+    for (at, bytes) in &PROGRAM {
+        let mut addr = *at;
+        for byte in *bytes {
+            if addr >= 0x2000 {
+                image.set(addr, *byte);
+            }
+            addr = addr.wrapping_add(1);
+        }
+    }
+    Ok(image)
+}
+
+fn notes(alloc: Global) -> Result<Notes, NoMemory> {
+    let mut notes = Notes {
+        loops: Vec::new(alloc),
+        goes: Vec::new(alloc),
+        words: vec![in alloc;
+            Moved {
+                block: 0x2171,
+                most: 2
+            },
+        ]?,
+        ends: Vec::new(alloc),
+    };
+    notes.loops.push(Loop {
+        head: 0x213A,
+        most: 2,
+        per: Vec::new(alloc),
+    })?;
+    Ok(notes)
+}
+
+/// What a main program begins with whose interrupts are on.
+const ON: EnabledSet = EnabledSet { bits: 0x0A };
+
+/// From where, with what it begins, the price of the loop, and the longest time.
+static SHUT: [(u16, EnabledSet, u64, u64); 7] = [
+    (0x2143, ON, 0, 9),
+    (0x2139, ENTERED, 9, 96),
+    (0x2100, ON, 0, 13),
+    (0x2160, ON, 0, 41),
+    (0x2160, ENTERED, 0, 46),
+    (0x2170, ON, 0, 14),
+    (0x2170, ENTERED, 0, 50),
+];
+
+#[test]
+fn the_longest_times_are_those_of_the_model(rt: HostRuntime) -> Result<(), Fail> {
+    let alloc = rt.alloc();
+    let image = program(alloc)?;
+    let notes = notes(alloc)?;
+    for (from, first, price, longest) in &SHUT {
+        let prices = vec![in alloc; *price]?;
+        let found = find(alloc, &image, &notes, *from, *first, prices)?;
+        let Some(most) = checked(alloc, &image, &notes, *from, *first, &found)? else {
+            panic!(rt; "{from:x}: not let through");
+        };
+        assert!(rt; most == *longest, "{from:x} {most}");
+    }
+    Ok(())
+}
