@@ -49,7 +49,7 @@ _kc96() {
     dis) options='' files='hex' ;;
     vcd) options='--out --stim --analog --clock' files='trace' ;;
     check) options='--stim --clock' files='trace' ;;
-    bound) options='--to --notes --map --lines' files='hex' ;;
+    bound) options='--to --notes --map --lines --entered --latency --worst' files='hex' ;;
     debug) options='--lives --stim --analog --lines' files='hex' ;;
     *) return ;;
     esac

@@ -8,3 +8,12 @@ pub mod OnWay
 pub mod Steps
 pub mod Passes
 mod CheckLemmas
+mod Choice
+mod Ways
+mod Begins
+mod Owes
+mod Goes
+mod Gaps
+mod Entries
+mod PriceLemmas
+mod LatencyChecks

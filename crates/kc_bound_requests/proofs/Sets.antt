@@ -8,7 +8,7 @@ use Rattle.kc_bound_requests.specs.declared.enabled.TheConstants.{EACH, CALLED, 
 use Rattle.kc_bound_requests.specs.declared.certificate.EnabledSet.{EnabledSet}
 use Rattle.kc_bound_requests.specs.Enabled.{is_both, is_same, may_leave}
 use Rattle.kc_bound_requests.specs.Closed.{is_in, implies, includes, leaves_within, includes_after}
-use Rattle.kc_bound_requests.specs.Requests.{FirstSetsAre}
+use Rattle.kc_bound_requests.specs.Requests.{IsFirstWith, FirstSetsAre}
 
 abbrev triple : Bool → Bool → Bool → Enabled
 triple i p h = record { interrupts = i; server = p; held = h }
@@ -109,15 +109,15 @@ not-empty set e there = by (set.bits == 0) refl
         let none : set.bits ≡ 0 = is-zero set.bits is in
         absurd (let no : true ≡ false = sym there ∙ ap (λ n. is_in (record { bits = n }) e) none ∙ none-of e.interrupts e.server e.held in cc no)
 
-first-of : (i p h : Bool) → (is_in CALLED (triple i p h) ≡ not h) × (is_in ENTERED (triple i p h) ≡ h)
-first-of false false false = (refl, refl)
-first-of true false false = (refl, refl)
-first-of false true false = (refl, refl)
-first-of true true false = (refl, refl)
-first-of false false true = (refl, refl)
-first-of true false true = (refl, refl)
-first-of false true true = (refl, refl)
-first-of true true true = (refl, refl)
+first-of : (i p h : Bool) → IsFirstWith (triple i p h)
+first-of false false false = record { called = refl; entered = refl; interruptible = refl; at_reset = refl }
+first-of true false false = record { called = refl; entered = refl; interruptible = refl; at_reset = refl }
+first-of false true false = record { called = refl; entered = refl; interruptible = refl; at_reset = refl }
+first-of true true false = record { called = refl; entered = refl; interruptible = refl; at_reset = refl }
+first-of false false true = record { called = refl; entered = refl; interruptible = refl; at_reset = refl }
+first-of true false true = record { called = refl; entered = refl; interruptible = refl; at_reset = refl }
+first-of false true true = record { called = refl; entered = refl; interruptible = refl; at_reset = refl }
+first-of true true true = record { called = refl; entered = refl; interruptible = refl; at_reset = refl }
 
 pub first-sets : FirstSetsAre
 first-sets e = first-of e.interrupts e.server e.held

@@ -1,6 +1,6 @@
 -- Where requests may be served in the passes through a routine (this kit's own; which request is served is that of the 80C196KC
 -- User's Manual, "Interrupts", "Peripheral Transaction Server").
-use Rattle.std.specs.Prelude.{◌≡◌, ℕ, suc, true, false, not, ◌<◌, ◌≤◌, Option, Some, None, List}
+use Rattle.std.specs.Prelude.{◌≡◌, ℕ, suc, true, false, not, ◌&&◌, ◌<◌, ◌≤◌, Option, Some, None, List}
 use Rattle.kc_intc.specs.declared.requests.Requests.{Requests}
 use Rattle.kc_extra.specs.Further.{Further}
 use Rattle.kc_block_spec.specs.Writing.{with_requests}
@@ -10,7 +10,7 @@ use Rattle.kc_bound.specs.Passes.{moment, is_over, IsStretch}
 use Rattle.kc_bound.specs.Premises.{ReturnsProperly, KeepsNotes}
 use Rattle.kc_bound.specs.Bounded.{IsImage, HoldsImage, IsPassFrom}
 use Rattle.kc_bound_requests.specs.declared.enabled.Enabled.{Enabled}
-use Rattle.kc_bound_requests.specs.declared.enabled.TheConstants.{CALLED, ENTERED}
+use Rattle.kc_bound_requests.specs.declared.enabled.TheConstants.{CALLED, ENTERED, INTERRUPTIBLE, AT_RESET}
 use Rattle.kc_bound_requests.specs.declared.certificate.EnabledSet.{EnabledSet}
 use Rattle.kc_bound_requests.specs.declared.certificate.RequestCertificate.{RequestCertificate}
 use Rattle.kc_bound_requests.specs.Enabled.{enabled_in, may_serve, is_service, nmi_pends, may_change}
@@ -36,9 +36,16 @@ ActivitiesChange X =
     (f : Further X) (n k : ℕ) (m : Machine X) → IsStretch f n m → k < n → 0 < (current (moment f k m)).left → (moment f (suc k) m).ended ≡ None
     → may_change (current (moment f k m)).doing (enabled_in (moment f k m)) (enabled_in (moment f (suc k) m)) ≡ true
 
--- what a routine begins with that is called, and one that an interrupt enters
+-- what passes begin with
+pub record IsFirstWith (e : Enabled) : Type 0 where
+  pub called : is_in CALLED e ≡ not e.held
+  pub entered : is_in ENTERED e ≡ e.held
+  pub interruptible : is_in INTERRUPTIBLE e ≡ (e.interrupts && not e.held)
+  pub at_reset : is_in AT_RESET e ≡ (not e.interrupts && not e.server && not e.held)
+
+-- a routine that is called, one that an interrupt enters, a main program whose interrupts are on, and a program at a reset
 abbrev pub FirstSetsAre : Type 0
-FirstSetsAre = (e : Enabled) → (is_in CALLED e ≡ not e.held) × (is_in ENTERED e ≡ e.held)
+FirstSetsAre = (e : Enabled) → IsFirstWith e
 
 -- ---- passes
 

@@ -52,7 +52,7 @@ fn includes_after(work: Option<Plan>, set: EnabledSet, before: EnabledSet) -> bo
         .all(|e| !is_in(before, *e) || leaves_within(work, set, *e))
 }
 
-fn enabled_at(c: &RequestCertificate, at: u16) -> EnabledAt
+pub(crate) fn enabled_at(c: &RequestCertificate, at: u16) -> EnabledAt
     ensures { result ≡ spec.enabled_at c.now at }
 {
     if at < IMAGE_START || at >= ROM_END {
@@ -140,7 +140,7 @@ fn all_closed(
     Ok(true)
 }
 
-fn is_interruptible(work: Option<Plan>) -> bool
+pub(crate) fn is_interruptible(work: Option<Plan>) -> bool
     ensures { result ≡ spec.is_interruptible work }
 {
     match work {

@@ -58,3 +58,9 @@ pub const CALLED: EnabledSet = EnabledSet { bits: 0x0F };
 
 /// Any I and PSE, and an instruction has to come: what a routine begins with that an interrupt enters.
 pub const ENTERED: EnabledSet = EnabledSet { bits: 0xF0 };
+
+/// I set, any PSE, and anything may come: what a main program begins with whose interrupts are on.
+pub const INTERRUPTIBLE: EnabledSet = EnabledSet { bits: 0x0A };
+
+/// I and PSE clear, and anything may come: what a program begins with at a reset.
+pub const AT_RESET: EnabledSet = EnabledSet { bits: 0x01 };

@@ -35,7 +35,7 @@ struct Step {
 }
 
 // The place of an address of the ROM.
-fn place_of(at: u16) -> Option<usize>
+pub(crate) fn place_of(at: u16) -> Option<usize>
     ensures { IfSome result (λ k. k < 16384) }
 {
     if at < IMAGE_START || at >= ROM_END {

@@ -48,6 +48,7 @@ use Rattle.kc_kit_words.specs.declared.extent.Extent.{Extent}
 use Rattle.kc_kit_words.specs.declared.inputs.Role.{Role}
 use Rattle.kc_kit_words.specs.declared.inputs.Role.TheVariants as role
 use Rattle.kc_lib.specs.Taking.{AreTaken}
+use Rattle.kc_kit_words.specs.declared.command.Wanted.{Wanted}
 use Rattle.kc_kit_words.specs.Commands.{Behind, Beside, Command, Helps, HelpsOn, ReportsVersion, Runs, Profiles, Assembles, Packs, Links, RunsHex, ProfilesHex, Lists, Debugs, Generates, Dumps, Checks, Bounds, Explains, names_of, names_read, names_written, names_beside, names_behind, names_whole}
 use Rattle.kc_kit_words.specs.Words.{placing_of}
 use Rattle.kc_kit_inputs.specs.declared.driving.Driving.{Driving}
@@ -435,7 +436,7 @@ sound-explained ns code None = record { reported = refl; named = inl refl }
 -- `bound` may be answered as words are that are no command; every other command is not
 
 abbrev pub IsOther : Command → Type 0
-IsOther (Bounds file from to inputs) = ⊥
+IsOther (Bounds file from to inputs wanted) = ⊥
 IsOther _ = Unit {0}
 
 -- the words of a bound
@@ -444,7 +445,8 @@ pub record IsBounds (c : Command) : Type 0 where
   pub from : List ℕ
   pub to : Option (List ℕ)
   pub inputs : List (Role × List ℕ)
-  pub is : c ≡ Bounds file from to inputs
+  pub wanted : Wanted
+  pub is : c ≡ Bounds file from to inputs wanted
 
 bounds-or-other : (c : Command) → IsOther c ⊎ IsBounds c
 bounds-or-other Helps = inl tt
@@ -462,7 +464,7 @@ bounds-or-other (Debugs file script inputs lives) = inl tt
 bounds-or-other (Generates number) = inl tt
 bounds-or-other (Dumps trace inputs out clock) = inl tt
 bounds-or-other (Checks trace rules inputs clock) = inl tt
-bounds-or-other (Bounds file from to inputs) = inr (record { file = file; from = from; to = to; inputs = inputs; is = refl })
+bounds-or-other (Bounds file from to inputs wanted) = inr (record { file = file; from = from; to = to; inputs = inputs; wanted = wanted; is = refl })
 bounds-or-other (Explains code) = inl tt
 
 pub sound-command : (c : Command) → IsOther c → (contents : List (Option (List ℕ))) (r : Response) → CommandAnswer AnyDiagnostic (Some c) contents r → IsSound (names_written (Some c)) r
@@ -520,7 +522,7 @@ sound-command (Checks trace rules inputs clock) o contents r h =
     let names = names_whole rules inputs in
     then-all (IsSound []) (reads_of names contents) (λ texts. TraceThen trace (λ printed. CheckTexts trace rules inputs clock printed texts) (drop (length names) contents)) r (sound-reads [] names contents)
     (λ texts e k. sound-trace [] trace (λ printed. CheckTexts trace rules inputs clock printed texts) (drop (length names) contents) r (λ printed l. sound-check-texts trace rules inputs clock printed texts r l) k) h
-sound-command (Bounds file from to inputs) o contents r h = absurd o
+sound-command (Bounds file from to inputs wanted) o contents r h = absurd o
 sound-command (Explains code) o contents r h = subst (IsSound []) (sym h) (sound-explained [] code (said_of code))
 
 -- what `bound` answers: no file is written, and the status is another one, or that of usage where it asks for no address of the ROM
@@ -551,20 +553,20 @@ bound-of-ends unknown asks r f h = record { none = h.0; reported = by h.1 }
     by (inr (inl u)) = inr (u.0, f u.1)
     by (inr (inr is)) = inl (found-reported r.status is)
 
-sound-bound : (file from : List ℕ) (to : Option (List ℕ)) (inputs : List (Role × List ℕ)) (contents : List (Option (List ℕ))) (r : Response) →
-    CommandAnswer AnyDiagnostic (Some (Bounds file from to inputs)) contents r → IsBoundSound (AsksForNoAddress file from to inputs contents) r
-sound-bound file from to inputs contents r h = by (reads_of (file ∷ names_of inputs) contents) refl h
+sound-bound : (file from : List ℕ) (to : Option (List ℕ)) (inputs : List (Role × List ℕ)) (wanted : Wanted) (contents : List (Option (List ℕ))) (r : Response) →
+    CommandAnswer AnyDiagnostic (Some (Bounds file from to inputs wanted)) contents r → IsBoundSound (AsksForNoAddress file from to inputs contents) r
+sound-bound file from to inputs wanted contents r h = by (reads_of (file ∷ names_of inputs) contents) refl h
   where
-    by : (x : Result (List (List ℕ)) Response) → reads_of (file ∷ names_of inputs) contents ≡ x → Then x (Parted 1 (λ texts more. OneText (λ text. BoundAnswer file from to inputs text more) texts)) r →
+    by : (x : Result (List (List ℕ)) Response) → reads_of (file ∷ names_of inputs) contents ≡ x → Then x (Parted 1 (λ texts more. OneText (λ text. BoundAnswer file from to inputs wanted text more) texts)) r →
         IsBoundSound (AsksForNoAddress file from to inputs contents) r
     by (Ok texts) f k =
         bound-of-ends (AreBoundable false from to inputs (take 1 texts) (drop 1 texts)) _ r
-        (λ u. subst (Accepting (λ texts. AreBoundable false from to inputs (take 1 texts) (drop 1 texts))) (sym f) u) (bound-ends file from to inputs (drop 1 texts) r (take 1 texts) k)
+        (λ u. subst (Accepting (λ texts. AreBoundable false from to inputs (take 1 texts) (drop 1 texts))) (sym f) u) (bound-ends file from to inputs wanted (drop 1 texts) r (take 1 texts) k)
     by (Err e) f k = bound-of-sound _ r (subst (IsSound []) (sym k) (sound-reads [] (file ∷ names_of inputs) contents e f))
 
 bound-command : (c : Command) (is : IsBounds c) (contents : List (Option (List ℕ))) (r : Response) → CommandAnswer AnyDiagnostic (Some c) contents r → IsBoundSound (AsksForNoAddress is.file is.from is.to is.inputs contents) r
 bound-command c is contents r h =
-    sound-bound is.file is.from is.to is.inputs contents r (subst (λ d. CommandAnswer AnyDiagnostic (Some d) contents r) is.is h)
+    sound-bound is.file is.from is.to is.inputs is.wanted contents r (subst (λ d. CommandAnswer AnyDiagnostic (Some d) contents r) is.is h)
 
 -- a read that has failed
 failed-says : (names : List (List ℕ)) (contents : List (Option (List ℕ))) (rose : Type 0) (r : Response) → FailedRead names contents rose r → rose × (r.status ≡ status.ReadFault) × (r.writes ≡ [])
@@ -583,7 +585,7 @@ may-usage (Some c) reported rose r (contents, holds, inl h) e = by (bounds-or-ot
     no-usage : (P : Type 0) → is_reported r.status ≡ true → P
     no-usage P s = absurd (let f : is_reported status.Usage ≡ true = subst (λ k. is_reported k ≡ true) e s in let g : false ≡ true = f in cc)
 
-    asks : (is : IsBounds c) → (is_reported r.status ≡ true) ⊎ ((r.status ≡ status.Usage) × AsksForNoAddress is.file is.from is.to is.inputs contents) → IsUsage (Some (Bounds is.file is.from is.to is.inputs)) reported
+    asks : (is : IsBounds c) → (is_reported r.status ≡ true) ⊎ ((r.status ≡ status.Usage) × AsksForNoAddress is.file is.from is.to is.inputs contents) → IsUsage (Some (Bounds is.file is.from is.to is.inputs is.wanted)) reported
     asks is (inl s) = no-usage _ s
     asks is (inr u) = (contents, subst (λ d. Holds reported (names_read (Some d)) contents) is.is holds, u.1)
 
@@ -946,7 +948,7 @@ accepted-check accepts may (Err e) r f ok h = absurd ok
 -- how a command ends that is accepted, where nothing outside fails
 abbrev pub IsDoneBy : Option Command → Status → Type 0
 IsDoneBy (Some (Checks trace rules inputs clock)) given = IsVerdictStatus given
-IsDoneBy (Some (Bounds file from to inputs)) given = IsVerdictStatus given
+IsDoneBy (Some (Bounds file from to inputs wanted)) given = IsVerdictStatus given
 IsDoneBy _ given = IsDone given
 
 pub done-command : (c : Option Command) (contents : List (Option (List ℕ))) (r : Response) → IsAccepted c contents → CommandAnswer AnyDiagnostic c contents r → IsDoneBy c r.status
@@ -1000,9 +1002,9 @@ done-command (Some (Checks trace rules inputs clock)) contents r a h =
     let held = drop (length names) contents in
     accepted-check (λ texts. IsTraceHeld trace (λ printed. AreCheckable inputs clock printed texts) held) (λ texts. TraceThen trace (λ printed. CheckTexts trace rules inputs clock printed texts) held) (reads_of names contents) r
     (λ texts b k. done-trace IsVerdictStatus trace (λ printed. AreCheckable inputs clock printed texts) (λ printed. CheckTexts trace rules inputs clock printed texts) held r (λ printed c l. done-check trace rules inputs clock printed texts r c l) b k) a h
-done-command (Some (Bounds file from to inputs)) contents r a h =
-    accepted-check (λ texts. AreBoundable true from to inputs (take 1 texts) (drop 1 texts)) (Parted 1 (λ texts more. OneText (λ text. BoundAnswer file from to inputs text more) texts)) (reads_of (file ∷ names_of inputs) contents) r
-    (λ texts b k. bound-done file from to inputs (drop 1 texts) r (take 1 texts) b k) a h
+done-command (Some (Bounds file from to inputs wanted)) contents r a h =
+    accepted-check (λ texts. AreBoundable true from to inputs (take 1 texts) (drop 1 texts)) (Parted 1 (λ texts more. OneText (λ text. BoundAnswer file from to inputs wanted text more) texts)) (reads_of (file ∷ names_of inputs) contents) r
+    (λ texts b k. bound-done file from to inputs wanted (drop 1 texts) r (take 1 texts) b k) a h
 done-command (Some (Explains code)) contents r a h = done-reported r (explained code) h (done-explained code (said_of code) (meaning-is code) a)
 
 -- how it ends then is how the command may end, and so where memory ran out
@@ -1037,7 +1039,7 @@ ends-by (Some (Debugs file script inputs lives)) given h = ends-other given h
 ends-by (Some (Generates number)) given h = ends-other given h
 ends-by (Some (Dumps trace inputs out clock)) given h = ends-other given h
 ends-by (Some (Checks trace rules inputs clock)) given h = ends-check given h
-ends-by (Some (Bounds file from to inputs)) given h = ends-check given h
+ends-by (Some (Bounds file from to inputs wanted)) given h = ends-check given h
 ends-by (Some (Explains code)) given h = ends-other given h
 
 -- a response without a fault outside is done, or because memory ran out

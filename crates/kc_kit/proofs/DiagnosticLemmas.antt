@@ -74,7 +74,7 @@ module _ (IsDiagnostic : DiagnosticRule) where
   command-any (Some (Generates number)) contents r h = reported-any made_names (made_given number) (placing_of []) (made_texts number) (λ lines. summary_of number) r h
   command-any (Some (Dumps trace inputs out clock)) contents r h = h
   command-any (Some (Checks trace rules inputs clock)) contents r h = h
-  command-any (Some (Bounds file from to inputs)) contents r h = h
+  command-any (Some (Bounds file from to inputs wanted)) contents r h = h
   command-any (Some (Explains code)) contents r h = h
 
   pub may-any : (c : Option Command) (reported : Option Holding) (rose : Type 0) (r : Response) → MayAnswer IsDiagnostic c reported rose r → MayAnswer AnyDiagnostic c reported rose r

@@ -15,6 +15,7 @@ use Rattle.kc_kit_files.specs.declared.refusal.Refusal.{Refusal}
 use Rattle.kc_kit_files.specs.Response.{Response, reports, Then, IsRefused}
 use Rattle.kc_kit_files.proofs.ReadLemmas.{refused-widen}
 use Rattle.kc_kit_words.specs.declared.command.Bound.{Bound}
+use Rattle.kc_kit_words.specs.declared.command.Wanted.{Wanted}
 use Rattle.kc_kit_words.specs.declared.inputs.Role.{Role}
 use Rattle.kc_kit_inputs.specs.Annotations.{AnnotationFiles, Annotations, names_in, by_notes, notes_in, with_notes, with_lines, with_names, annotations_of, annotation_files, address_in}
 use Rattle.kc_kit_inputs.specs.Hex.{by_image, hex_of}
@@ -64,7 +65,7 @@ of-notes : (names : List Name) (lines : List MapEntry) (file : Option (List ℕ 
 of-notes names lines None e h = ok-err (IsInput e) no_notes e h
 of-notes names lines (Some file) e h = of-notes-text file.0 file.1 (notes_of (address_of names lines) file.1) e h
 
-of-annotations : (files : AnnotationFiles) (e : Response) → annotations_of files ≡ Err e → IsInput e
+pub of-annotations : (files : AnnotationFiles) (e : Response) → annotations_of files ≡ Err e → IsInput e
 of-annotations files e h = by-names (names_in files.map) refl h
   where
     by-notes : (names : List Name) (lines : List MapEntry) (x : Result NotesRead Response) → notes_in names lines files.notes ≡ x → with_notes names lines x ≡ Err e → IsInput e
@@ -91,28 +92,28 @@ PassesEnd unknown r = (r.writes ≡ []) × (((r.status ≡ status.Usage) × unkn
 of-unknown : (unknown : Type 0) (word : List ℕ) (r : Response) → unknown → r ≡ reports status.Usage usage_line (unknown_diagnostic word) → PassesEnd unknown r
 of-unknown unknown word r u h = (ap (λ (k : Response). k.writes) h, inl (ap (λ (k : Response). k.status) h, u))
 
-of-report : (unknown : Type 0) (image : List ℕ) (said : NotesRead) (first : ℕ) (r : Response) → IsReported image said first r → PassesEnd unknown r
-of-report unknown image said first r h = (ap (λ (k : Response). k.writes) h.answered, inr (by h.is_bound (ap (λ (k : Response). k.status) h.answered)))
+of-report : (unknown : Type 0) (image : List ℕ) (said : NotesRead) (lines : List MapEntry) (first : ℕ) (wanted : Wanted) (r : Response) → IsReported image said lines first wanted r → PassesEnd unknown r
+of-report unknown image said lines first wanted r h = (ap (λ (k : Response). k.writes) h.answered, inr (by h.is_bound (ap (λ (k : Response). k.status) h.answered)))
   where
     by : (b : Bool) → r.status ≡ report_status b → IsFound r.status
     by true e = inl e
     by false e = inr e
 
-of-end : (from : List ℕ) (to : Option (List ℕ)) (image : List ℕ) (a : Annotations) (first : ℕ) (r : Response) → address_in a from ≡ Some first →
-    Then (end_of a to) (λ last. IsReported image (with_end last a.notes) first) r → PassesEnd (are_addresses from to a ≡ false) r
-of-end from None image a first r e h = of-report _ image (with_end None a.notes) first r h
-of-end from (Some word) image a first r e h = by (address_in a word) refl h
+of-end : (from : List ℕ) (to : Option (List ℕ)) (wanted : Wanted) (image : List ℕ) (a : Annotations) (first : ℕ) (r : Response) → address_in a from ≡ Some first →
+    Then (end_of a to) (λ last. IsReported image (with_end last a.notes) a.lines first wanted) r → PassesEnd (are_addresses from to a ≡ false) r
+of-end from None wanted image a first r e h = of-report _ image (with_end None a.notes) a.lines first wanted r h
+of-end from (Some word) wanted image a first r e h = by (address_in a word) refl h
   where
-    by : (x : Option ℕ) → address_in a word ≡ x → Then (maybe_end (by_address word x)) (λ last. IsReported image (with_end last a.notes) first) r → PassesEnd (are_addresses from (Some word) a ≡ false) r
+    by : (x : Option ℕ) → address_in a word ≡ x → Then (maybe_end (by_address word x)) (λ last. IsReported image (with_end last a.notes) a.lines first wanted) r → PassesEnd (are_addresses from (Some word) a ≡ false) r
     by None f k = of-unknown _ word r (ap (λ y. is_some (address_in a from) && is_some y) f ∙ ap (λ y. is_some y && false) e) k
-    by (Some last) f k = of-report _ image (with_end (Some last) a.notes) first r k
+    by (Some last) f k = of-report _ image (with_end (Some last) a.notes) a.lines first wanted r k
 
-passes-end : (from : List ℕ) (to : Option (List ℕ)) (image : List ℕ) (a : Annotations) (r : Response) → PassesAnswer from to image a r → PassesEnd (are_addresses from to a ≡ false) r
-passes-end from to image a r h = by (address_in a from) refl h
+passes-end : (from : List ℕ) (to : Option (List ℕ)) (wanted : Wanted) (image : List ℕ) (a : Annotations) (r : Response) → PassesAnswer from to wanted image a r → PassesEnd (are_addresses from to a ≡ false) r
+passes-end from to wanted image a r h = by (address_in a from) refl h
   where
-    by : (x : Option ℕ) → address_in a from ≡ x → Then (by_address from x) (λ first. Then (end_of a to) (λ last. IsReported image (with_end last a.notes) first)) r → PassesEnd (are_addresses from to a ≡ false) r
+    by : (x : Option ℕ) → address_in a from ≡ x → Then (by_address from x) (λ first. Then (end_of a to) (λ last. IsReported image (with_end last a.notes) a.lines first wanted)) r → PassesEnd (are_addresses from to a ≡ false) r
     by None e k = of-unknown _ from r (ap (λ y. is_some y && option_map_or (λ word. is_some (address_in a word)) to true) e) k
-    by (Some first) e k = of-end from to image a first r e k
+    by (Some first) e k = of-end from to wanted image a first r e k
 
 -- ---- the whole
 
@@ -127,24 +128,24 @@ passed : (unknown wide : Type 0) (r : Response) → (unknown → wide) → Passe
 passed unknown wide r f (none, inl u) = (none, inr (inl (u.0, f u.1)))
 passed unknown wide r f (none, inr is) = (none, inr (inr is))
 
-module _ (file from : List ℕ) (to : Option (List ℕ)) (inputs : List (Role × List ℕ)) (more : List (List ℕ)) (r : Response) where
+module _ (file from : List ℕ) (to : Option (List ℕ)) (inputs : List (Role × List ℕ)) (wanted : Wanted) (more : List (List ℕ)) (r : Response) where
   abbrev files : AnnotationFiles
   files = annotation_files inputs more
 
-  text-ends : (text : List ℕ) → BoundAnswer file from to inputs text more r → BoundEnds (AreBoundable false from to inputs (text ∷ []) more) r
+  text-ends : (text : List ℕ) → BoundAnswer file from to inputs wanted text more r → BoundEnds (AreBoundable false from to inputs (text ∷ []) more) r
   text-ends text h = by-image (image_of text) refl h
     where
-      by-annotations : (image : List ℕ) → IsOk (image_of text) → (x : Result Annotations Response) → annotations_of files ≡ x → Then x (PassesAnswer from to image) r → BoundEnds (AreBoundable false from to inputs (text ∷ []) more) r
+      by-annotations : (image : List ℕ) → IsOk (image_of text) → (x : Result Annotations Response) → annotations_of files ≡ x → Then x (PassesAnswer from to wanted image) r → BoundEnds (AreBoundable false from to inputs (text ∷ []) more) r
       by-annotations image ok (Ok a) f k =
-          passed (are_addresses from to a ≡ false) _ r (λ none. (ok, subst (Accepting (λ a. are_addresses from to a ≡ false)) (sym f) none)) (passes-end from to image a r k)
+          passed (are_addresses from to a ≡ false) _ r (λ none. (ok, subst (Accepting (λ a. are_addresses from to a ≡ false)) (sym f) none)) (passes-end from to wanted image a r k)
       by-annotations image ok (Err e) f k = refused _ r e (of-annotations files e f) k
 
-      by-image : (x : Result (List ℕ) (ℕ × ℕ)) → image_of text ≡ x → Then (by_image file text x) (λ image. Then (annotations_of files) (PassesAnswer from to image)) r → BoundEnds (AreBoundable false from to inputs (text ∷ []) more) r
+      by-image : (x : Result (List ℕ) (ℕ × ℕ)) → image_of text ≡ x → Then (by_image file text x) (λ image. Then (annotations_of files) (PassesAnswer from to wanted image)) r → BoundEnds (AreBoundable false from to inputs (text ∷ []) more) r
       by-image (Ok image) f k = by-annotations image (subst (λ (y : Result (List ℕ) (ℕ × ℕ)). IsOk y) (sym f) refl) (annotations_of files) refl k
       by-image (Err fault) f k =
           refused _ r (line_response file text fault.0 (coded (codes "H") fault.1)) (refl, refl) k
 
-  pub bound-ends : (texts : List (List ℕ)) → OneText (λ text. BoundAnswer file from to inputs text more) texts r → BoundEnds (AreBoundable false from to inputs texts more) r
+  pub bound-ends : (texts : List (List ℕ)) → OneText (λ text. BoundAnswer file from to inputs wanted text more) texts r → BoundEnds (AreBoundable false from to inputs texts more) r
   bound-ends [] h = absurd h
   bound-ends (text ∷ []) h = text-ends text h
   bound-ends (text ∷ other ∷ texts) h = absurd h
@@ -154,56 +155,56 @@ module _ (file from : List ℕ) (to : Option (List ℕ)) (inputs : List (Role ×
   found a known (none, inl u) = absurd (let e : true ≡ false = sym known ∙ u.1 in cc)
   found a known (none, inr is) = is
 
-  text-done : (text : List ℕ) → AreBoundable true from to inputs (text ∷ []) more → BoundAnswer file from to inputs text more r → IsFound r.status
+  text-done : (text : List ℕ) → AreBoundable true from to inputs (text ∷ []) more → BoundAnswer file from to inputs wanted text more r → IsFound r.status
   text-done text accepted h = by-image (image_of text) accepted.0 h
     where
-      by-annotations : (image : List ℕ) (x : Result Annotations Response) → Accepting (λ a. are_addresses from to a ≡ true) x → Then x (PassesAnswer from to image) r → IsFound r.status
-      by-annotations image (Ok a) known k = found a known (passes-end from to image a r k)
+      by-annotations : (image : List ℕ) (x : Result Annotations Response) → Accepting (λ a. are_addresses from to a ≡ true) x → Then x (PassesAnswer from to wanted image) r → IsFound r.status
+      by-annotations image (Ok a) known k = found a known (passes-end from to wanted image a r k)
       by-annotations image (Err e) known k = absurd known
 
-      by-image : (x : Result (List ℕ) (ℕ × ℕ)) → IsOk x → Then (by_image file text x) (λ image. Then (annotations_of files) (PassesAnswer from to image)) r → IsFound r.status
+      by-image : (x : Result (List ℕ) (ℕ × ℕ)) → IsOk x → Then (by_image file text x) (λ image. Then (annotations_of files) (PassesAnswer from to wanted image)) r → IsFound r.status
       by-image (Ok image) ok k = by-annotations image (annotations_of files) accepted.1 k
       by-image (Err fault) ok k = absurd (let e : false ≡ true = ok in cc)
 
-  pub bound-done : (texts : List (List ℕ)) → AreBoundable true from to inputs texts more → OneText (λ text. BoundAnswer file from to inputs text more) texts r → IsFound r.status
+  pub bound-done : (texts : List (List ℕ)) → AreBoundable true from to inputs texts more → OneText (λ text. BoundAnswer file from to inputs wanted text more) texts r → IsFound r.status
   bound-done [] accepted h = absurd h
   bound-done (text ∷ []) accepted h = text-done text accepted h
   bound-done (text ∷ other ∷ texts) accepted h = absurd h
 
 -- ---- what is prepared
 
-module _ (file from : List ℕ) (to : Option (List ℕ)) (inputs : List (Role × List ℕ)) (text : List ℕ) (more : List (List ℕ)) where
+module _ (file from : List ℕ) (to : Option (List ℕ)) (inputs : List (Role × List ℕ)) (wanted : Wanted) (text : List ℕ) (more : List (List ℕ)) where
   abbrev Answers : Response → Type 0
-  Answers = BoundAnswer file from to inputs text more
+  Answers = BoundAnswer file from to inputs wanted text more
 
   pub image-refused : (refusal : Refusal) → IsRefused (λ response. hex_of file text ≡ Err response) refusal → IsRefused Answers refusal
   image-refused refusal h =
-      refused-widen (λ response. hex_of file text ≡ Err response) Answers refusal (λ r e. then-err (hex_of file text) (λ image. Then (annotations_of (annotation_files inputs more)) (PassesAnswer from to image)) r e) h
+      refused-widen (λ response. hex_of file text ≡ Err response) Answers refusal (λ r e. then-err (hex_of file text) (λ image. Then (annotations_of (annotation_files inputs more)) (PassesAnswer from to wanted image)) r e) h
 
   pub annotations-refused : (image : List ℕ) (refusal : Refusal) → hex_of file text ≡ Ok image → IsRefused (λ response. annotations_of (annotation_files inputs more) ≡ Err response) refusal → IsRefused Answers refusal
   annotations-refused image refusal e h =
       refused-widen (λ response. annotations_of (annotation_files inputs more) ≡ Err response) Answers refusal
-      (λ r f. then-ok (hex_of file text) image (λ image. Then (annotations_of (annotation_files inputs more)) (PassesAnswer from to image)) r e (then-err (annotations_of (annotation_files inputs more)) (PassesAnswer from to image) r f)) h
+      (λ r f. then-ok (hex_of file text) image (λ image. Then (annotations_of (annotation_files inputs more)) (PassesAnswer from to wanted image)) r e (then-err (annotations_of (annotation_files inputs more)) (PassesAnswer from to wanted image) r f)) h
 
-  pub passes-prepared : (image : List ℕ) (a : Annotations) (p : Result Job Refusal) → hex_of file text ≡ Ok image → annotations_of (annotation_files inputs more) ≡ Ok a → IsPrepared (PassesAnswer from to image a) p → IsPrepared Answers p
+  pub passes-prepared : (image : List ℕ) (a : Annotations) (p : Result Job Refusal) → hex_of file text ≡ Ok image → annotations_of (annotation_files inputs more) ≡ Ok a → IsPrepared (PassesAnswer from to wanted image a) p → IsPrepared Answers p
   passes-prepared image a p e f h =
-      prepared-widen (PassesAnswer from to image a) Answers p
-      (λ r k. then-ok (hex_of file text) image (λ image. Then (annotations_of (annotation_files inputs more)) (PassesAnswer from to image)) r e (then-ok (annotations_of (annotation_files inputs more)) a (PassesAnswer from to image) r f k)) h
+      prepared-widen (PassesAnswer from to wanted image a) Answers p
+      (λ r k. then-ok (hex_of file text) image (λ image. Then (annotations_of (annotation_files inputs more)) (PassesAnswer from to wanted image)) r e (then-ok (annotations_of (annotation_files inputs more)) a (PassesAnswer from to wanted image) r f k)) h
 
-module _ (from : List ℕ) (to : Option (List ℕ)) (image : List ℕ) (a : Annotations) where
+module _ (from : List ℕ) (to : Option (List ℕ)) (wanted : Wanted) (image : List ℕ) (a : Annotations) where
   abbrev Behind : ℕ → Response → Type 0
-  Behind first = Then (end_of a to) (λ last. IsReported image (with_end last a.notes) first)
+  Behind first = Then (end_of a to) (λ last. IsReported image (with_end last a.notes) a.lines first wanted)
 
-  pub from-refused : (refusal : Refusal) → IsRefused (λ response. place_of a from ≡ Err response) refusal → IsRefused (PassesAnswer from to image a) refusal
-  from-refused refusal h = refused-widen (λ response. place_of a from ≡ Err response) (PassesAnswer from to image a) refusal (λ r e. then-err (place_of a from) Behind r e) h
+  pub from-refused : (refusal : Refusal) → IsRefused (λ response. place_of a from ≡ Err response) refusal → IsRefused (PassesAnswer from to wanted image a) refusal
+  from-refused refusal h = refused-widen (λ response. place_of a from ≡ Err response) (PassesAnswer from to wanted image a) refusal (λ r e. then-err (place_of a from) Behind r e) h
 
-  pub end-refused : (first : ℕ) (refusal : Refusal) → place_of a from ≡ Ok first → IsRefused (λ response. end_of a to ≡ Err response) refusal → IsRefused (PassesAnswer from to image a) refusal
+  pub end-refused : (first : ℕ) (refusal : Refusal) → place_of a from ≡ Ok first → IsRefused (λ response. end_of a to ≡ Err response) refusal → IsRefused (PassesAnswer from to wanted image a) refusal
   end-refused first refusal e h =
-      refused-widen (λ response. end_of a to ≡ Err response) (PassesAnswer from to image a) refusal
-      (λ r f. then-ok (place_of a from) first Behind r e (then-err (end_of a to) (λ last. IsReported image (with_end last a.notes) first) r f)) h
+      refused-widen (λ response. end_of a to ≡ Err response) (PassesAnswer from to wanted image a) refusal
+      (λ r f. then-ok (place_of a from) first Behind r e (then-err (end_of a to) (λ last. IsReported image (with_end last a.notes) a.lines first wanted) r f)) h
 
-  pub report-prepared : (first : ℕ) (last : Option ℕ) (said : NotesRead) (p : Result Job Refusal) → place_of a from ≡ Ok first → end_of a to ≡ Ok last → said ≡ with_end last a.notes → IsPrepared (IsReported image said first) p →
-      IsPrepared (PassesAnswer from to image a) p
+  pub report-prepared : (first : ℕ) (last : Option ℕ) (said : NotesRead) (p : Result Job Refusal) → place_of a from ≡ Ok first → end_of a to ≡ Ok last → said ≡ with_end last a.notes → IsPrepared (IsReported image said a.lines first wanted) p →
+      IsPrepared (PassesAnswer from to wanted image a) p
   report-prepared first last said p e f same h =
-      prepared-widen (IsReported image said first) (PassesAnswer from to image a) p
-      (λ r k. then-ok (place_of a from) first Behind r e (then-ok (end_of a to) last (λ last. IsReported image (with_end last a.notes) first) r f (subst (λ s. IsReported image s first r) same k))) h
+      prepared-widen (IsReported image said a.lines first wanted) (PassesAnswer from to wanted image a) p
+      (λ r k. then-ok (place_of a from) first Behind r e (then-ok (end_of a to) last (λ last. IsReported image (with_end last a.notes) a.lines first wanted) r f (subst (λ s. IsReported image s a.lines first wanted r) same k))) h

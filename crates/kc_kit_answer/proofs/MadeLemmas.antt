@@ -3,13 +3,13 @@ use Rattle.std.proofs.Common.{◌≡◌, ℕ, List, [], Some, None, refl, subst}
 use Rattle.std.specs.Prelude.{codes}
 use Rattle.kc_gen.specs.Stimuli.{stimuli_text}
 use Rattle.kc_link_place.specs.declared.ranges.Ranges.{Ranges}
-use Rattle.kc_kit_words.specs.Options.{value_of}
+use Rattle.kc_kit_words.specs.Options.{pairs_of, value_in}
 use Rattle.kc_kit_words.specs.Words.{placing_of}
 use Rattle.kc_kit_inputs.specs.Driving.{GivenFiles}
 use Rattle.kc_kit_answer.specs.Generate.{made_names, made_texts, made_given}
 
 pub default-ranges : record { reg = (0x1A, 0xFF); code = (0x2080, 0x5FFF); ram = (0x200, 0x1FFD); stack = None } ≡ placing_of []
-unfolding value_of
+unfolding pairs_of value_in
 default-ranges = refl
 
 -- a stimulus file of this text alone

@@ -70,8 +70,8 @@ CommandAnswer IsDiagnostic (Some (Debugs file script inputs lives)) contents res
 CommandAnswer IsDiagnostic (Some (Generates number)) contents response = GenerateAnswer IsDiagnostic number response
 CommandAnswer IsDiagnostic (Some (Dumps trace inputs out clock)) contents response = DumpFiles trace inputs out clock contents response
 CommandAnswer IsDiagnostic (Some (Checks trace rules inputs clock)) contents response = CheckFiles trace rules inputs clock contents response
-CommandAnswer IsDiagnostic (Some (Bounds file from to inputs)) contents response =
-    Then (reads_of (file ∷ names_of inputs) contents) (Parted 1 (λ texts more. OneText (λ text. BoundAnswer file from to inputs text more) texts)) response
+CommandAnswer IsDiagnostic (Some (Bounds file from to inputs wanted)) contents response =
+    Then (reads_of (file ∷ names_of inputs) contents) (Parted 1 (λ texts more. OneText (λ text. BoundAnswer file from to inputs wanted text more) texts)) response
 CommandAnswer IsDiagnostic (Some (Explains code)) contents response = response ≡ explained code
 
 -- What may be answered to a command, over what the files report that they hold: all files are read before any is checked. A read may
@@ -110,7 +110,7 @@ IsAccepted (Some (Debugs file script inputs lives)) contents =
 IsAccepted (Some (Generates number)) contents = IsGenerable number
 IsAccepted (Some (Dumps trace inputs out clock)) contents = DumpAccepted trace inputs contents
 IsAccepted (Some (Checks trace rules inputs clock)) contents = CheckAccepted trace rules inputs clock contents
-IsAccepted (Some (Bounds file from to inputs)) contents =
+IsAccepted (Some (Bounds file from to inputs wanted)) contents =
     Accepting (λ texts. AreBoundable true from to inputs (take 1 texts) (drop 1 texts)) (reads_of (file ∷ names_of inputs) contents)
 IsAccepted (Some (Explains code)) contents = is_among code all_codes ≡ true
 
@@ -118,7 +118,7 @@ IsAccepted (Some (Explains code)) contents = is_among code all_codes ≡ true
 -- run whether it has ended in an undefined use
 abbrev pub EndsAccepted : Option Command → Status → Type 0
 EndsAccepted (Some (Checks trace rules inputs clock)) given = (given ≡ status.Done) ⊎ ((given ≡ status.Broken) ⊎ (given ≡ status.NoMemory))
-EndsAccepted (Some (Bounds file from to inputs)) given = (given ≡ status.Done) ⊎ ((given ≡ status.Broken) ⊎ (given ≡ status.NoMemory))
+EndsAccepted (Some (Bounds file from to inputs wanted)) given = (given ≡ status.Done) ⊎ ((given ≡ status.Broken) ⊎ (given ≡ status.NoMemory))
 EndsAccepted _ given = (given ≡ status.Done) ⊎ ((given ≡ status.Undefined) ⊎ (given ≡ status.NoMemory))
 
 -- ---- what is answered as words are that are no command: those, and words that ask for a bound from or to a word that is no address of
@@ -130,7 +130,7 @@ AsksForNoAddress file from to inputs contents =
 
 abbrev pub IsUsage : Option Command → Option Holding → Type 0
 IsUsage None reported = Unit {0}
-IsUsage (Some (Bounds file from to inputs)) reported =
+IsUsage (Some (Bounds file from to inputs wanted)) reported =
     (contents : List (Option (List ℕ))) × Holds reported (file ∷ names_of inputs) contents × AsksForNoAddress file from to inputs contents
 IsUsage _ reported = ⊥
 

@@ -10,6 +10,8 @@ use Rattle.kc_kit_files.specs.declared.status.Status.{Status}
 use Rattle.kc_kit_files.specs.declared.status.Status.TheVariants as status
 use Rattle.kc_kit_files.specs.Response.{Response, says, reports, Then}
 use Rattle.kc_kit_files.specs.Shown.{word_shown}
+use Rattle.kc_debug_script.specs.declared.line_map.MapEntry.{MapEntry}
+use Rattle.kc_kit_words.specs.declared.command.Wanted.{Wanted}
 use Rattle.kc_kit_words.specs.declared.inputs.Role.{Role}
 use Rattle.kc_kit_bound.specs.Reports.{IsReport}
 use Rattle.kc_kit_inputs.specs.Annotations.{Annotations, annotation_files, annotations_of, address_in}
@@ -50,22 +52,22 @@ report_status false = status.Broken
 abbrev pub with_end : Option ℕ → NotesRead → NotesRead
 with_end last said = record said { ends = said.ends ++ option_to_list last }
 
--- what may be reported of the passes from an address through an image, by notes with these contents
-pub record IsReported (image : List ℕ) (said : NotesRead) (from : ℕ) (response : Response) : Type 0 where
+-- what may be reported of the passes from an address through an image, by notes with these contents and a line map
+pub record IsReported (image : List ℕ) (said : NotesRead) (lines : List MapEntry) (from : ℕ) (wanted : Wanted) (response : Response) : Type 0 where
   pub notes : Notes
   pub contents : notes_read notes ≡ said
   pub is_bound : Bool
   pub text : List ℕ
-  pub report : IsReport image notes from is_bound text
+  pub report : IsReport image notes lines from wanted is_bound text
   pub answered : response ≡ says (report_status is_bound) text
 
 -- from a word on, and to another one where it is given
-abbrev pub PassesAnswer : List ℕ → Option (List ℕ) → List ℕ → Annotations → Response → Type 0
-PassesAnswer from to image a response = Then (place_of a from) (λ first. Then (end_of a to) (λ last. IsReported image (with_end last a.notes) first)) response
+abbrev pub PassesAnswer : List ℕ → Option (List ℕ) → Wanted → List ℕ → Annotations → Response → Type 0
+PassesAnswer from to wanted image a response = Then (place_of a from) (λ first. Then (end_of a to) (λ last. IsReported image (with_end last a.notes) a.lines first wanted)) response
 
 -- the hex file is checked first, then the maps and the notes, and then the words for addresses
-abbrev pub BoundAnswer : List ℕ → List ℕ → Option (List ℕ) → List (Role × List ℕ) → List ℕ → List (List ℕ) → Response → Type 0
-BoundAnswer file from to inputs text more response = Then (hex_of file text) (λ image. Then (annotations_of (annotation_files inputs more)) (PassesAnswer from to image)) response
+abbrev pub BoundAnswer : List ℕ → List ℕ → Option (List ℕ) → List (Role × List ℕ) → Wanted → List ℕ → List (List ℕ) → Response → Type 0
+BoundAnswer file from to inputs wanted text more response = Then (hex_of file text) (λ image. Then (annotations_of (annotation_files inputs more)) (PassesAnswer from to wanted image)) response
 
 -- ---- the files have their forms, and both words are addresses of the ROM, or not
 

@@ -16,13 +16,14 @@ ghost use Rattle.kc_kit_answer.specs.Lines.{usage_line};
 use crate::job::Job;
 use kc_base::{Files, Image, NoMemory};
 use kc_bound::Notes;
+use kc_debug_script::LineMap;
 use kc_kit_bound::{Report, report_bound};
 use kc_kit_files::{Cause, Refusal, put_word, read_file, refusal_of};
 use kc_kit_inputs::{
     Annotations, address, annotation_files, annotations_in, image_of, read_inputs,
 };
 use kc_kit_verdict::Verdict;
-use kc_kit_words::{Bound, Command};
+use kc_kit_words::{Bound, Command, Wanted};
 use std::alloc::Global;
 
 /// Reads a hex file, and the maps and the notes that are named, for a routine that is to be bounded.
@@ -53,14 +54,14 @@ fn bound_text<'a>(
 ) -> Result<Job<'a>, Refusal>
     requires short { length text.now ≤ file_limit }
     requires inputs { AllShort (map (λ t. t.items) inputs.now) }
-    ensures { IsPrepared (BoundAnswer bound.now.file.now bound.now.from.now (option_map (λ t. t.now) bound.now.to) (inputs_in bound.now.inputs) text.now (map (λ t. t.items) inputs.now)) result }
+    ensures { IsPrepared (BoundAnswer bound.now.file.now bound.now.from.now (option_map (λ t. t.now) bound.now.to) (inputs_in bound.now.inputs) bound.now.wanted text.now (map (λ t. t.items) inputs.now)) result }
 {
     let image = match image_of(alloc, bound.file, text) {
         Ok(image) => image,
         Err(refusal) => return Err(refusal),
     };
     match annotations_in(alloc, annotation_files(bound.inputs, inputs)) {
-        Ok(annotations) => bound_passes(alloc, bound.from, bound.to, &image, annotations),
+        Ok(annotations) => bound_passes(alloc, bound, &image, annotations),
         Err(refusal) => Err(refusal),
     }
 }
@@ -124,26 +125,26 @@ fn with_end(mut notes: Notes, end: Option<u16>) -> Result<Notes, NoMemory>
     Ok(notes)
 }
 
-// The bound from a word on, and to another one where it is given.
+// The bound from a word on, and to another one where it is given, with what is wanted beside it.
 fn bound_passes<'a>(
     alloc: Global,
-    from: &str,
-    to: Option<&str>,
+    bound: &Bound<'a>,
     image: &Image,
     annotations: Annotations,
 ) -> Result<Job<'a>, Refusal>
-    ensures { IsPrepared (PassesAnswer from.now (option_map (λ t. t.now) to.entry) image.now (said_in annotations)) result }
+    ensures { IsPrepared (PassesAnswer bound.now.from.now (option_map (λ t. t.now) bound.now.to) bound.now.wanted image.now (said_in annotations)) result }
 {
-    let first = match place_of(alloc, &annotations, from) {
+    let first = match place_of(alloc, &annotations, bound.from) {
         Ok(first) => first,
         Err(refusal) => return Err(refusal),
     };
-    let last = match end_of(alloc, &annotations, to) {
+    let last = match end_of(alloc, &annotations, bound.to) {
         Ok(last) => last,
         Err(refusal) => return Err(refusal),
     };
-    match with_end(annotations.notes, last) {
-        Ok(notes) => report_job(alloc, image, &notes, first),
+    let Annotations { lines, notes, .. } = annotations;
+    match with_end(notes, last) {
+        Ok(notes) => report_job(alloc, image, &notes, &lines, first, bound.wanted),
         Err(NoMemory) => Err(Refusal::NoMemory),
     }
 }
@@ -153,11 +154,13 @@ fn report_job<'a>(
     alloc: Global,
     image: &Image,
     notes: &Notes,
+    lines: &LineMap,
     from: u16,
+    wanted: Wanted,
 ) -> Result<Job<'a>, Refusal>
-    ensures { IsPrepared (IsReported image.now (notes_read notes.now) from) result }
+    ensures { IsPrepared (IsReported image.now (notes_read notes.now) lines.now from wanted) result }
 {
-    match report_bound(alloc, image, notes, from) {
+    match report_bound(alloc, image, notes, lines, from, wanted) {
         Ok(report) => Ok(printed(alloc, report)),
         Err(NoMemory) => Err(Refusal::NoMemory),
     }

@@ -90,6 +90,9 @@ pub static HELP: [Row; 16] = [
        [--notes FILE]             read how often loops turn, where jumps lead, how many words blocks have
        [--map FILE]               take names of addresses from a linker's map
        [--lines FILE]             take lines of sources from a line map
+       [--entered]                begin as an interrupt has entered the routine, not as a call has
+       [--latency]                print how long interrupts are not asked for, and how long one waits
+       [--worst]                  print a way through the routine that costs most, and what each address takes
 ",
     ),
     (

@@ -1,6 +1,8 @@
 mod AlikeLemmas
+mod ImageLemmas
 mod KnownLemmas
 mod OneAnswerLemmas
 mod OutcomeLemmas
 mod ReadableLemmas
 mod StartLevels
+mod ToldLemmas

@@ -382,7 +382,7 @@ module _
       let held = drop (length (names_whole rules inputs)) contents in
       equal r s (one_then (reads_of (names_whole rules inputs) contents) (λ texts. TraceThen trace (λ printed. CheckTexts trace rules inputs clock printed texts) held)
       (λ texts. one_trace_then trace (λ printed. CheckTexts trace rules inputs clock printed texts) (λ printed. one_check_texts trace rules inputs clock printed texts) held) r s h k)
-  answers (Some (Bounds file from to inputs)) contents one r s h k = absurd one
+  answers (Some (Bounds file from to inputs wanted)) contents one r s h k = absurd one
   answers (Some (Explains code)) contents one r s h k = equal r s (h ∙ sym k)
 
 -- ---- the whole

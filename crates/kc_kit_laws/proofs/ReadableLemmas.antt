@@ -205,5 +205,5 @@ written_is_readable (Some (Debugs file script inputs lives)) contents r h = of_n
 written_is_readable (Some (Generates number)) contents r h = of_none r
 written_is_readable (Some (Dumps trace inputs out clock)) contents r h = of_none r
 written_is_readable (Some (Checks trace rules inputs clock)) contents r h = of_none r
-written_is_readable (Some (Bounds file from to inputs)) contents r h = of_none r
+written_is_readable (Some (Bounds file from to inputs wanted)) contents r h = of_none r
 written_is_readable (Some (Explains code)) contents r h = of_none r

@@ -2,3 +2,4 @@ pub mod Alike
 pub mod OneAnswer
 pub mod Readable
 pub mod StartLevels
+pub mod Told

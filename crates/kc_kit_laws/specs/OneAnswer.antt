@@ -18,7 +18,7 @@ silent response = record { status = response.status; text = response.text; pause
 
 -- `bound` is left out: it has an answer for each certificate that may be found, and lines of refusals of which nothing is claimed
 abbrev pub HasOneAnswer : Option Command → Type 0
-HasOneAnswer (Some (Bounds file from to inputs)) = ⊥
+HasOneAnswer (Some (Bounds file from to inputs wanted)) = ⊥
 HasOneAnswer _ = Unit {0}
 
 -- two responses to another command over the same contents of the files that it reads do the same, whatever is said of a fault of a source

@@ -7,11 +7,14 @@ ghost use Rattle.kc_kit_laws.specs.Alike.{RunsAlike};
 ghost use Rattle.kc_kit_laws.specs.OneAnswer.{OneAnswer, OneDiagnostic, OneOutcome};
 ghost use Rattle.kc_kit_laws.specs.Readable.{WrittenIsReadable};
 ghost use Rattle.kc_kit_laws.specs.StartLevels.{StartLevelsAgree};
+ghost use Rattle.kc_kit_laws.specs.Told.{BoundIsTold};
 
 use kc_asm::linked_image;
 use kc_asm_laws::{
     filled_are_bytes, modules_fit, one_answer_of_text, one_instructions, one_listing, one_origin,
 };
+use kc_bound::certified_is_bounded;
+use kc_bound_requests::{closed_shows_served, gaps_are_short, latency_is_short, waits_are_short};
 use kc_hex::written_is_read;
 use kc_lib::laws::taken_once;
 use kc_link::{one_image, one_line_map};
@@ -74,3 +77,15 @@ pub fn one_outcome()
 pub fn start_levels_agree()
     ensures { StartLevelsAgree }
 {}
+
+/// What `bound` prints of a routine is so of each pass through it, on every machine whose ROM holds the image: its states, where requests
+/// are served, and how long one waits.
+pub fn bound_is_told<X>()
+    ensures { BoundIsTold X }
+{
+    certified_is_bounded::<X>();
+    closed_shows_served::<X>();
+    gaps_are_short::<X>();
+    waits_are_short::<X>();
+    latency_is_short::<X>();
+}

@@ -12,43 +12,12 @@ use Rattle.kc_kit_words.specs.declared.extent.Extent.{Extent}
 use Rattle.kc_kit_words.specs.declared.values.Form.{Form}
 use Rattle.kc_kit_words.specs.declared.usage.Wrong.TheVariants as wrong
 use Rattle.kc_kit_words.specs.Number.{number_of}
-use Rattle.kc_kit_words.specs.Options.{form_of, has_form, value_of, are_options, inputs_of, clock_in, extent_in, lives_in}
+use Rattle.kc_kit_words.specs.Options.{form_of, has_form, pairs_of, left_over, value_in, value_of, are_pairs, are_options, inputs_of, clock_in, extent_in, lives_in, wanted_in}
 use Rattle.kc_kit_words.specs.Values.{is_name, is_trace_name, is_address, range_of}
-use Rattle.kc_kit_words.specs.Usage.{wrong_text, no_command, bad_value, bad_number, bad_address, twice, lacks, wrong_value, wrong_last, wrong_option, lacks_out, wrong_extent, wrong_listing, wrong_placing, wrong_outputs, wrong_name, wrong_files, wrong_file, wrong_trace, wrong_dump, wrong_pair, wrong_range, wrong_list, wrong_number, wrong_address, wrong_bound, wrong_word, wrong_more, wrong_by, wrong_with, wrong_writes, overwrites, plain_usage_of, wrong_check, wrong_run_options}
+use Rattle.kc_kit_words.specs.Usage.{wrong_text, no_command, bad_value, bad_number, bad_address, twice, lacks, wrong_value, wrong_last, wrong_pairs, wrong_option, lacks_out, wrong_extent, wrong_listing, wrong_placing, wrong_outputs, wrong_name, wrong_files, wrong_file, wrong_trace, wrong_dump, wrong_pair, wrong_range, wrong_list, wrong_number, wrong_address, wrong_bound, wrong_word, wrong_more, wrong_by, wrong_with, wrong_writes, overwrites, plain_usage_of, wrong_check, wrong_run_options}
 use Rattle.kc_kit_words.specs.UsageLaw.{WrongWhereNoCommand}
 use Rattle.kc_kit_words.specs.Commands.{Command, Helps, ReportsVersion, Runs, Profiles, Assembles, Packs, Links, ProfilesHex, Lists, Debugs, Generates, overwritten, sparing, Checks, Bounds}
 use Rattle.kc_kit_words.specs.Words.{count_files, files_of, options_of, are_files, placing_of, is_other, are_apart, beside_of, run_so, run_by, assembles_by, assemble_by, pack_by, links_by, link_by, hex_so, hex_by, lists_by, list_by, debug_by, generate_by, dumps_by, dump_by, explain_by, alone, command_by, help_on, plain_command_of, check_by, bound_by, behind_of, differ}
-use Rattle.kc_kit_words.proofs.OptionLemmas.{behind}
-
--- ---- options, in pairs with their values
-
-wrong_option-two : (verb : List ℕ) (ws : List (String Global)) (x y : String Global) → 2 ≤ length ws → x ≡ get_or ws 0 x → y ≡ get_or ws 1 y →
-    wrong_option verb (map string_bytes ws) ≡ option_or (wrong_value (form_of verb (string_bytes x)) (string_bytes x) (string_bytes y) (value_of (string_bytes x) (behind ws))) (wrong_option verb (behind ws))
-unfolding wrong_option
-wrong_option-two verb [] x y two f g = absurd (omega (arith, two))
-wrong_option-two verb (a ∷ []) x y two f g = absurd (omega (arith, two))
-wrong_option-two verb (a ∷ b ∷ ws) x y two f g =
-    let whole : take (length (a ∷ b ∷ ws) - 2) ws ≡ ws = take_all (length (a ∷ b ∷ ws) - 2) ws (omega arith) in
-    rw (f, g) (ap (λ l. option_or (wrong_value (form_of verb (string_bytes a)) (string_bytes a) (string_bytes b) (value_of (string_bytes a) (map string_bytes l))) (wrong_option verb (map string_bytes l))) (sym whole))
-
-pub wrong_option-first : (verb option value : List ℕ) (ws : List (String Global)) (x y : String Global) (w : Option (List ℕ)) → 2 ≤ length ws → x ≡ get_or ws 0 x → y ≡ get_or ws 1 y → option ≡ string_bytes x → value ≡ string_bytes y →
-    wrong_value (form_of verb option) option value (value_of option (behind ws)) ≡ w → wrong_option verb (map string_bytes ws) ≡ option_or w (wrong_option verb (behind ws))
-wrong_option-first verb option value ws x y w two f g e h is =
-    wrong_option-two verb ws x y two f g
-    ∙ ap (λ o. option_or (wrong_value (form_of verb o) o (string_bytes y) (value_of o (behind ws))) (wrong_option verb (behind ws))) (sym e)
-    ∙ ap (λ v. option_or (wrong_value (form_of verb option) option v (value_of option (behind ws))) (wrong_option verb (behind ws))) (sym h)
-    ∙ ap (λ t. option_or t (wrong_option verb (behind ws))) is
-
-pub wrong_option-last : (verb option : List ℕ) (ws : List (String Global)) (x : String Global) → length ws < 2 → 1 ≤ length ws → x ≡ get_or ws 0 x → option ≡ string_bytes x → wrong_option verb (map string_bytes ws) ≡ Some (wrong_last (form_of verb option) option)
-unfolding wrong_option
-wrong_option-last verb option [] x short some f e = absurd (omega (arith, some))
-wrong_option-last verb option (a ∷ []) x short some f e = rw (e, f) refl
-wrong_option-last verb option (a ∷ b ∷ ws) x short some f e = absurd (omega (arith, short))
-
-pub wrong_option-none : (verb : List ℕ) (ws : List (String Global)) → length ws < 1 → wrong_option verb (map string_bytes ws) ≡ None
-unfolding wrong_option
-wrong_option-none verb [] h = refl
-wrong_option-none verb (a ∷ ws) h = absurd (omega (arith, h))
 
 -- ---- the words with their verb, of which so many name files
 
@@ -97,12 +66,19 @@ pair-agrees (Some form) option value again w b e = by (has_form form value) agai
     by true None = e
     by true (Some v) = refl
 
+pairs-agree : (verb : List ℕ) (pairs : List (List ℕ × List ℕ)) → is_none (wrong_pairs verb pairs) ≡ are_pairs verb pairs
+unfolding wrong_pairs are_pairs
+pairs-agree verb [] = refl
+pairs-agree verb (pair ∷ pairs) = pair-agrees (form_of verb pair.0) pair.0 pair.1 (value_in pair.0 pairs) (wrong_pairs verb pairs) (are_pairs verb pairs) (pairs-agree verb pairs)
+
+-- and a word that is left over
 options-agree : (verb : List ℕ) (options : List (List ℕ)) → is_none (wrong_option verb options) ≡ are_options verb options
-unfolding wrong_option are_options
-options-agree verb [] = refl
-options-agree verb (option ∷ []) = refl
-options-agree verb (option ∷ value ∷ words) =
-    pair-agrees (form_of verb option) option value (value_of option words) (wrong_option verb words) (are_options verb words) (options-agree verb words)
+options-agree verb options = by (wrong_pairs verb (pairs_of options)) (left_over options) ∙ ap (λ b. b && is_none (left_over options)) (pairs-agree verb (pairs_of options))
+  where
+    by : (w over : Option (List ℕ)) → is_none (option_or w (option_map (λ word. wrong_last (form_of verb word) word) over)) ≡ (is_none w && is_none over)
+    by None None = refl
+    by None (Some word) = refl
+    by (Some t) over = refl
 
 -- what is checked first, and then the others
 gate : (w u : Option (List ℕ)) (b : Bool) (c : Option Command) → is_none w ≡ b → is_some u ≡ is_none c → is_some (option_or w u) ≡ is_none (cond b c None)
@@ -273,7 +249,7 @@ check-agrees (trace ∷ rules ∷ third ∷ files) verb options = refl
 bound-agrees : (files : List (List ℕ)) (verb : List ℕ) (options : List (List ℕ)) → is_some (wrong_bound files) ≡ is_none (bound_by files verb options)
 bound-agrees [] verb options = refl
 bound-agrees (file ∷ []) verb options = refl
-bound-agrees (file ∷ from ∷ []) verb options = by (is_name file) (is_address from) (Bounds file from (value_of (codes "--to") options) (inputs_of verb options))
+bound-agrees (file ∷ from ∷ []) verb options = by (is_name file) (is_address from) (Bounds file from (value_of (codes "--to") options) (inputs_of verb options) (wanted_in options))
   where
     by : (a b : Bool) (c : Command) → is_some (option_or (cond a None (Some (wrong_text wrong.BadName))) (cond b None (Some (bad_address from)))) ≡ is_none (cond (a && b) (Some c) None)
     by true true c = refl

@@ -37,7 +37,7 @@ asked (read.Debug debug) = Debugs debug.file.now debug.script.now (inputs_in deb
 asked (read.Generate generate) = Generates generate.number
 asked (read.Dump dump) = Dumps dump.trace.now (inputs_in dump.inputs) dump.out.now dump.clock
 asked (read.Check check) = Checks check.trace.now check.rules.now (inputs_in check.inputs) check.clock
-asked (read.Bound bound) = Bounds bound.file.now bound.from.now (option_map (λ t. t.now) bound.to) (inputs_in bound.inputs)
+asked (read.Bound bound) = Bounds bound.file.now bound.from.now (option_map (λ t. t.now) bound.to) (inputs_in bound.inputs) bound.wanted
 asked (read.Explain explain) = Explains explain.code.now
 
 -- 1 to 64 files

@@ -4,6 +4,7 @@ use Rattle.std.specs.List.{list_any}
 use Rattle.std.specs.Option.{option_to_list}
 use Rattle.std.specs.Str.{bytes_eq}
 use Rattle.kc_link_place.specs.declared.ranges.Ranges.{Ranges}
+use Rattle.kc_kit_words.specs.declared.command.Wanted.{Wanted}
 use Rattle.kc_kit_words.specs.declared.extent.Extent.{Extent}
 use Rattle.kc_kit_words.specs.declared.inputs.Role.{Role}
 
@@ -34,7 +35,7 @@ pub data Command : Type 0 where
   Generates : ℕ → Command
   Dumps : List ℕ → List (Role × List ℕ) → List ℕ → ℕ → Command
   Checks : List ℕ → List ℕ → List (Role × List ℕ) → ℕ → Command
-  Bounds : List ℕ → List ℕ → Option (List ℕ) → List (Role × List ℕ) → Command
+  Bounds : List ℕ → List ℕ → Option (List ℕ) → List (Role × List ℕ) → Wanted → Command
   Explains : List ℕ → Command
 
 -- ---- the files that a command names: those that are read, in this order, and those that are written
@@ -59,7 +60,7 @@ names_read (Some (Lists file first last)) = file ∷ []
 names_read (Some (Debugs file script inputs lives)) = file ∷ script ∷ names_of inputs
 names_read (Some (Dumps trace inputs out clock)) = names_of inputs ++ trace ∷ []
 names_read (Some (Checks trace rules inputs clock)) = names_whole rules inputs ++ trace ∷ []
-names_read (Some (Bounds file from to inputs)) = file ∷ names_of inputs
+names_read (Some (Bounds file from to inputs wanted)) = file ∷ names_of inputs
 names_read _ = []
 
 -- the files beside a hex file

@@ -1,12 +1,15 @@
 -- A law of the options: they come in any order (this kit's own).
-use Rattle.std.specs.Prelude.{◌≡◌, ◌⊎◌, ℕ, List, [], ◌∷◌, ◌++◌, None}
-use Rattle.kc_kit_words.specs.Options.{role_of}
+use Rattle.std.specs.Prelude.{◌≡◌, ◌⊎◌, ℕ, List, [], ◌∷◌, ◌++◌, None, if◌then◌else◌}
+use Rattle.kc_kit_words.specs.Options.{is_flag, role_of}
 use Rattle.kc_kit_words.specs.Words.{command_with}
 
--- the words of options and their values
+-- the words of options and their values; a flag stands without
+abbrev pub with_word : List ℕ × List ℕ → List (List ℕ) → List (List ℕ)
+with_word option words = if is_flag option.0 then option.0 ∷ words else option.0 ∷ option.1 ∷ words
+
 abbrev pub words_of : List (List ℕ × List ℕ) → List (List ℕ)
 words_of [] = []
-words_of (option ∷ options) = option.0 ∷ option.1 ∷ words_of options
+words_of (option ∷ options) = with_word option (words_of options)
 
 -- two options that stand beside one another may change places, but two that name files for reading
 abbrev pub OptionsInAnyOrder : Type 0

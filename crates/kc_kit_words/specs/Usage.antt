@@ -10,7 +10,7 @@ use Rattle.kc_kit_words.specs.declared.usage.Wrong.{Wrong}
 use Rattle.kc_kit_words.specs.declared.usage.Wrong.TheVariants as wrong
 use Rattle.kc_kit_words.specs.declared.values.Form.{Form}
 use Rattle.kc_kit_words.specs.Number.{number_of}
-use Rattle.kc_kit_words.specs.Options.{is_option, form_of, has_form, value_of, extent_in}
+use Rattle.kc_kit_words.specs.Options.{is_option, form_of, has_form, left_over, pairs_of, value_in, value_of, extent_in}
 use Rattle.kc_kit_words.specs.Values.{is_name, is_trace_name, is_address, range_of}
 use Rattle.kc_kit_words.specs.Commands.{Beside, Command, overwritten}
 use Rattle.kc_kit_words.specs.Words.{files_of, options_of, placing_of, is_other, are_apart, are_different, behind_of, beside_of, command_by, help_on}
@@ -89,10 +89,12 @@ abbrev pub wrong_last : Option Form → List ℕ → List ℕ
 wrong_last None option = unknown option
 wrong_last (Some form) option = no_value option
 
-unfoldable pub wrong_option : List ℕ → List (List ℕ) → Option (List ℕ)
-wrong_option verb [] = None
-wrong_option verb (option ∷ []) = Some (wrong_last (form_of verb option) option)
-wrong_option verb (option ∷ value ∷ words) = option_or (wrong_value (form_of verb option) option value (value_of option words)) (wrong_option verb words)
+unfoldable pub wrong_pairs : List ℕ → List (List ℕ × List ℕ) → Option (List ℕ)
+wrong_pairs verb [] = None
+wrong_pairs verb (pair ∷ pairs) = option_or (wrong_value (form_of verb pair.0) pair.0 pair.1 (value_in pair.0 pairs)) (wrong_pairs verb pairs)
+
+abbrev pub wrong_option : List ℕ → List (List ℕ) → Option (List ℕ)
+wrong_option verb words = option_or (wrong_pairs verb (pairs_of words)) (option_map (λ word. wrong_last (form_of verb word) word) (left_over words))
 
 abbrev pub lacks_out : List (List ℕ) → Option (List ℕ)
 lacks_out options = if is_some (value_of (codes "--out") options) then None else Some (lacks (codes "--out"))

@@ -9,7 +9,7 @@ use Rattle.kc_link_place.specs.Ranges.{are_in_bounds, default_ranges, lies_withi
 use Rattle.kc_kit_words.specs.declared.extent.Extent.{Extent}
 use Rattle.kc_kit_words.specs.declared.inputs.Role.{Role}
 use Rattle.kc_kit_words.specs.Commands.{Beside, Command, Helps, HelpsOn, ReportsVersion, Runs, Profiles, Assembles, Packs, Links, RunsHex, ProfilesHex, Lists, Debugs, Generates, Dumps, Checks, Bounds, Explains, sparing, Behind}
-use Rattle.kc_kit_words.specs.Options.{lives_in, is_option, are_options, inputs_of, value_of, clock_in, extent_in, range_in, length_in}
+use Rattle.kc_kit_words.specs.Options.{lives_in, is_option, are_options, inputs_of, value_of, clock_in, extent_in, range_in, length_in, wanted_in}
 use Rattle.kc_kit_words.specs.Number.{number_of}
 use Rattle.kc_kit_words.specs.Values.{is_name, is_trace_name, is_address, range_of}
 
@@ -165,7 +165,8 @@ check_by _ verb options = None
 
 -- a hex file, and where the routine begins
 abbrev pub bound_of : List ℕ → List ℕ → List ℕ → List (List ℕ) → Option Command
-bound_of file from verb options = if is_name file && is_address from then Some (Bounds file from (value_of (codes "--to") options) (inputs_of verb options)) else None
+bound_of file from verb options =
+    if is_name file && is_address from then Some (Bounds file from (value_of (codes "--to") options) (inputs_of verb options) (wanted_in options)) else None
 
 abbrev pub bound_by : List (List ℕ) → List ℕ → List (List ℕ) → Option Command
 bound_by (file ∷ from ∷ []) verb options = bound_of file from verb options

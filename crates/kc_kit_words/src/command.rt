@@ -119,6 +119,17 @@ pub struct Check<'a> {
     pub clock: u32,
 }
 
+/// What is told of a routine beside its most states.
+#[derive(Clone, Copy)]
+pub struct Wanted {
+    /// Of passes that begin as an interrupt has entered the routine, and not as a call has.
+    pub entered: bool,
+    /// How long interrupts are not asked for, and how long one waits.
+    pub latency: bool,
+    /// A way through the routine that costs most.
+    pub worst: bool,
+}
+
 /// The most states of a routine of a hex file, from an address to where it returns, or to another address where an option says it.
 #[derive(Clone, Copy)]
 pub struct Bound<'a> {
@@ -126,6 +137,7 @@ pub struct Bound<'a> {
     pub from: &'a str,
     pub to: Option<&'a str>,
     pub inputs: Inputs<'a>,
+    pub wanted: Wanted,
 }
 
 /// A code that is to be explained.

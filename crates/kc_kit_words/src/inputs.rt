@@ -4,7 +4,7 @@ ghost use Rattle.std.specs.Option.{option_map};
 ghost use Rattle.kc_kit_words.specs.Options.{role_of};
 ghost use Rattle.kc_kit_words.specs.Inputs.{first_of, input_in, inputs_in};
 
-use crate::options::form_of;
+use crate::options::{first_option, form_of};
 use crate::values::Form;
 
 /// What a file is there for that an option names.
@@ -55,9 +55,8 @@ impl<'a> Inputs<'a> {
     {
         let verb = self.verb;
         let mut left = self.words;
-        while let [option, name, rest @ ..] = left {
-            if let Some(role) = role_of(verb, option.as_str()) {
-                let name = name.as_str();
+        while let Some((option, name, rest)) = first_option(left) {
+            if let Some(role) = role_of(verb, option) {
                 let others = Inputs { verb, words: rest };
                 return Some((Input { role, name }, others));
             }

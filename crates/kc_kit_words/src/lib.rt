@@ -16,7 +16,7 @@ mod words;
 
 pub use command::{
     Assemble, Behind, Beside, Bound, Check, Command, Debug, Dump, Explain, Generate, Link, List,
-    Pack, Profile, ProfileHex, Run, RunHex,
+    Pack, Profile, ProfileHex, Run, RunHex, Wanted,
 };
 pub use extent::Extent;
 pub use inputs::{Input, Inputs, Role};

@@ -1,12 +1,13 @@
 // The words of a command line after its verb: files, and then options with their values.
-ghost use Rattle.std.specs.Prelude.{◌≡◌, ◌≤◌, ◌&&◌, is_none, map, string_bytes, length, codes, IfSome};
+ghost use Rattle.std.specs.Prelude.{◌≡◌, ◌≤◌, ◌<◌, ◌&&◌, is_none, map, string_bytes, length, codes, IfSome};
 ghost use Rattle.std.specs.Option.{option_map, option_and_then};
 ghost use Rattle.kc_base.specs.TextLines.{begins_with};
 ghost use Rattle.kc_kit_words.specs.Asked.{IsBounded};
-ghost use Rattle.kc_kit_words.specs.Options.{is_option, placing_options, driving_options, running_options, bound_options, form_among, form_of, takes, value_of, are_options, states_in, lives_in, extent_in, clock_in, range_in, length_in};
+ghost use Rattle.kc_kit_words.specs.Options.{is_option, placing_options, driving_options, running_options, wanted_options, bound_options, form_among, form_of, takes, is_flag, first_pair, value_of, are_options, states_in, lives_in, extent_in, clock_in, range_in, length_in, stands, wanted_in};
 ghost use Rattle.kc_kit_words.specs.Values.{clock_of, max_states, max_lives};
 ghost use Rattle.kc_kit_words.specs.Words as spec;
 
+use crate::command::Wanted;
 use crate::extent::Extent;
 use crate::inputs::Role;
 use crate::values::{Form, bytes, clock, has_form, is_dash, lives, range, states};
@@ -79,7 +80,17 @@ fn running_form(option: &str) -> Option<Form>
     }
 }
 
-// The form of the value of an option that says where a pass ends, or names a file that says more of its instructions.
+// The form of an option that says what is told beside a bound.
+fn wanted_form(option: &str) -> Option<Form>
+    ensures { result ≡ form_among option.now wanted_options }
+{
+    match option {
+        "--entered" | "--latency" | "--worst" => Some(Form::Flag),
+        _ => None,
+    }
+}
+
+// The form of the value of an option that says where a pass ends, names a file that says more of its instructions, or says what is told.
 fn bound_form(option: &str) -> Option<Form>
     ensures { result ≡ form_among option.now bound_options }
 {
@@ -88,7 +99,7 @@ fn bound_form(option: &str) -> Option<Form>
         "--notes" => Some(Form::Input(Role::Notes)),
         "--map" => Some(Form::Input(Role::Map)),
         "--lines" => Some(Form::Input(Role::Lines)),
-        _ => None,
+        _ => wanted_form(option),
     }
 }
 
@@ -148,14 +159,38 @@ fn takes(verb: &str, option: &str, value: &str) -> bool
     }
 }
 
+// Whether an option stands without a value.
+fn is_flag(word: &str) -> bool
+    ensures { result ≡ is_flag word.now }
+{
+    matches!(word, "--entered" | "--latency" | "--worst")
+}
+
+/// The first option with its value, which is the empty word for a flag, and the words behind them.
+pub(crate) fn first_option(words: &[String]) -> Option<(&str, &str, &[String])>
+    ensures first { option_map (λ r. ((r.0.now, r.1.now), map string_bytes r.2.now)) result ≡ first_pair (map string_bytes words.now) }
+    ensures fewer { IfSome result (λ r. length r.2.now < length words.now) }
+{
+    let [word, rest @ ..] = words else {
+        return None;
+    };
+    if is_flag(word.as_str()) {
+        return Some((word.as_str(), "", rest));
+    }
+    let [value, behind @ ..] = rest else {
+        return None;
+    };
+    Some((word.as_str(), value.as_str(), behind))
+}
+
 /// The value of an option, where it stands.
 pub(crate) fn value_of<'a>(option: &str, words: &'a [String]) -> Option<&'a str>
     ensures { option_map (λ v. v.now) result ≡ value_of option.now (map string_bytes words.now) }
 {
     let mut left = words;
-    while let [word, value, rest @ ..] = left {
-        if word.as_str() == option {
-            return Some(value.as_str());
+    while let Some((word, value, rest)) = first_option(left) {
+        if word == option {
+            return Some(value);
         }
         left = rest;
     }
@@ -174,8 +209,8 @@ pub(crate) fn are_options(verb: &str, words: &[String]) -> bool
     ensures { result ≡ are_options verb.now (map string_bytes words.now) }
 {
     let mut left = words;
-    while let [option, value, rest @ ..] = left {
-        if !may_stand(verb, option.as_str(), value.as_str(), rest) {
+    while let Some((option, value, rest)) = first_option(left) {
+        if !may_stand(verb, option, value, rest) {
             return false;
         }
         left = rest;
@@ -241,4 +276,22 @@ pub(crate) fn length_in(option: &str, words: &[String]) -> Option<u16>
     ensures { result ≡ length_in option.now (map string_bytes words.now) }
 {
     bytes(value_of(option, words)?)
+}
+
+// Whether a flag stands among options.
+fn stands(flag: &str, words: &[String]) -> bool
+    ensures { result ≡ stands flag.now (map string_bytes words.now) }
+{
+    value_of(flag, words).is_some()
+}
+
+/// What is told beside a bound.
+pub(crate) fn wanted_in(words: &[String]) -> Wanted
+    ensures { result ≡ wanted_in (map string_bytes words.now) }
+{
+    Wanted {
+        entered: stands("--entered", words),
+        latency: stands("--latency", words),
+        worst: stands("--worst", words),
+    }
 }

@@ -10,6 +10,7 @@ ghost use Rattle.kc_kit_words.specs.Options.{role_of};
 
 use crate::command::Command;
 use crate::inputs::{Inputs, role_of};
+use crate::options::first_option;
 
 // Whether a name is one of these.
 fn is_among(name: &str, names: &[String]) -> bool
@@ -38,8 +39,8 @@ fn is_input(name: &str, inputs: Inputs<'_>) -> bool
 {
     let verb = inputs.verb;
     let mut left = inputs.words;
-    while let [option, value, rest @ ..] = left {
-        if names_it(name, verb, option.as_str(), value.as_str()) {
+    while let Some((option, value, rest)) = first_option(left) {
+        if names_it(name, verb, option, value) {
             return true;
         }
         left = rest;

@@ -12,7 +12,7 @@ ghost use Rattle.kc_kit_words.specs.Values.{range_of};
 ghost use Rattle.kc_kit_words.specs.Words.{beside_of};
 
 use crate::command::Command;
-use crate::options::{count_files, extent_in, form_of, is_option, value_of};
+use crate::options::{count_files, extent_in, first_option, form_of, is_option, value_of};
 use crate::overwriting::overwritten;
 use crate::values::{has_form, is_address, is_name, is_trace_name, range, short};
 use crate::words::{
@@ -186,8 +186,8 @@ fn wrong_option<'a>(verb: &str, options: &'a [String]) -> Option<Wrong<'a>>
     ensures { option_map wrong_text result ≡ wrong_option verb.now (map string_bytes options.now) }
 {
     let mut left = options;
-    while let [option, value, rest @ ..] = left {
-        if let Some(wrong) = wrong_value(verb, option.as_str(), value.as_str(), rest) {
+    while let Some((option, value, rest)) = first_option(left) {
+        if let Some(wrong) = wrong_value(verb, option, value, rest) {
             return Some(wrong);
         }
         left = rest;

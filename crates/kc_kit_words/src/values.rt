@@ -27,6 +27,8 @@ pub(crate) enum Form {
     File,
     /// The name of a file that is read beside the first ones.
     Input(Role),
+    /// The empty word: the option is a flag, which has no value.
+    Flag,
 }
 
 /// The most lives that a run may have.
@@ -141,5 +143,6 @@ pub(crate) fn has_form(form: Form, value: &str) -> bool
         Form::Span => range(value).is_some(),
         Form::Address => is_address(value),
         Form::File | Form::Input(_) => is_name(value),
+        Form::Flag => value.is_empty(),
     }
 }

@@ -16,6 +16,7 @@ use crate::extent::Extent;
 use crate::inputs::Inputs;
 use crate::options::{
     are_options, clock_in, count_files, extent_in, length_in, lives_in, range_in, value_of,
+    wanted_in,
 };
 use crate::overwriting::sparing;
 use crate::values::{is_address, is_name, is_trace_name, range, short};
@@ -445,6 +446,7 @@ fn bounding<'a>(
                 verb,
                 words: options,
             },
+            wanted: wanted_in(options),
         }))
     } else {
         None

@@ -50,7 +50,7 @@ static PROGRAM: [(u16, &[u8]); 8] = [
     (0x214A, &[0xFD, 0x2F, 0xFD, 0xF0]),
 ];
 
-fn program(alloc: Global) -> Result<Image, NoMemory> {
+pub(crate) fn program(alloc: Global) -> Result<Image, NoMemory> {
     let mut image = Image::blank(alloc)?;
     for (at, bytes) in &PROGRAM {
         put(&mut image, *at, bytes);
@@ -78,7 +78,7 @@ fn note_loop(alloc: Global, notes: &mut Notes, head: u16, most: u64) -> Result<(
 }
 
 /// The notes of the program.
-fn all_notes(alloc: Global) -> Result<Notes, NoMemory> {
+pub(crate) fn all_notes(alloc: Global) -> Result<Notes, NoMemory> {
     let mut notes = no_notes(alloc);
     note_loop(alloc, &mut notes, 0x210E, 3)?;
     notes.loops.push(Loop {

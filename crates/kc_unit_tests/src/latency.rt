@@ -1,8 +1,7 @@
 // The longest time in which no interrupt is asked for, in the passes through routines, by a model that was written apart.
 use kc_base::{Image, NoMemory};
 use kc_bound::{Loop, Moved, Notes};
-use kc_bound_latency::{checked, find};
-use kc_bound_requests::{ENTERED, EnabledSet};
+use kc_bound_requests::{ENTERED, EnabledSet, INTERRUPTIBLE, checked_latency, find_latency};
 use std::alloc::Global;
 use std::test::Fail;
 
@@ -65,6 +64,11 @@ fn notes(alloc: Global) -> Result<Notes, NoMemory> {
         ends: Vec::new(alloc),
     };
     notes.loops.push(Loop {
+        head: 0x2118,
+        most: 4,
+        per: vec![in alloc; 0x2115]?,
+    })?;
+    notes.loops.push(Loop {
         head: 0x213A,
         most: 2,
         per: Vec::new(alloc),
@@ -72,18 +76,17 @@ fn notes(alloc: Global) -> Result<Notes, NoMemory> {
     Ok(notes)
 }
 
-/// What a main program begins with whose interrupts are on.
-const ON: EnabledSet = EnabledSet { bits: 0x0A };
-
-/// From where, with what it begins, the price of the loop, and the longest time.
-static SHUT: [(u16, EnabledSet, u64, u64); 7] = [
-    (0x2143, ON, 0, 9),
-    (0x2139, ENTERED, 9, 96),
-    (0x2100, ON, 0, 13),
-    (0x2160, ON, 0, 41),
-    (0x2160, ENTERED, 0, 46),
-    (0x2170, ON, 0, 14),
-    (0x2170, ENTERED, 0, 50),
+/// From where, with what it begins, the prices of the loops, and the longest time. Between the turns of a loop in which interrupts are
+/// asked for its price is not paid.
+static SHUT: [(u16, EnabledSet, [u64; 2], u64); 8] = [
+    (0x2143, INTERRUPTIBLE, [0, 0], 9),
+    (0x2139, ENTERED, [0, 9], 96),
+    (0x2100, INTERRUPTIBLE, [0, 0], 13),
+    (0x2115, INTERRUPTIBLE, [12, 0], 13),
+    (0x2160, INTERRUPTIBLE, [0, 0], 41),
+    (0x2160, ENTERED, [0, 0], 46),
+    (0x2170, INTERRUPTIBLE, [0, 0], 14),
+    (0x2170, ENTERED, [0, 0], 50),
 ];
 
 #[test]
@@ -91,10 +94,10 @@ fn the_longest_times_are_those_of_the_model(rt: HostRuntime) -> Result<(), Fail>
     let alloc = rt.alloc();
     let image = program(alloc)?;
     let notes = notes(alloc)?;
-    for (from, first, price, longest) in &SHUT {
-        let prices = vec![in alloc; *price]?;
-        let found = find(alloc, &image, &notes, *from, *first, prices)?;
-        let Some(most) = checked(alloc, &image, &notes, *from, *first, &found)? else {
+    for (from, first, of_loops, longest) in &SHUT {
+        let prices = vec![in alloc; of_loops[0], of_loops[1]]?;
+        let found = find_latency(alloc, &image, &notes, *from, *first, prices)?;
+        let Some(most) = checked_latency(alloc, &image, &notes, *from, *first, &found)? else {
             panic!(rt; "{from:x}: not let through");
         };
         assert!(rt; most == *longest, "{from:x} {most}");

@@ -19,6 +19,8 @@ mod bus;
 #[cfg(test)]
 mod convert;
 #[cfg(test)]
+mod damage;
+#[cfg(test)]
 mod due;
 #[cfg(test)]
 mod extra;

@@ -22,7 +22,7 @@ returns-in-Err g c =
     let inputs = inputs_in bound.inputs in
     let reported = g.F.Files.held c.args.files.now in
     let rose : Type 0 = Rose (g.F.Files.read_faults c.args.files.now) (g.F.Files.read_faults c.read_file.new.files) in
-    let may : List (List ℕ) → List (List ℕ) → Response → Type 0 = λ texts more. OneText (λ text. BoundAnswer name from to inputs text more) texts in
+    let may : List (List ℕ) → List (List ℕ) → Response → Type 0 = λ texts more. OneText (λ text. BoundAnswer name from to inputs bound.wanted text more) texts in
     record {
       answer = first-missed (name ∷ []) (names_of inputs) (Parted 1 may) reported rose c.in-Err.refusal
           (refused-widen (MissedOne reported name rose) (MissedRead reported (name ∷ []) rose) c.in-Err.refusal (λ r m. missed-one reported name rose r m) c.in-Err.ensures.read);
@@ -38,11 +38,11 @@ returns-in-Ok-read_inputs g c =
     let inputs = inputs_in bound.inputs in
     let reported = g.F.Files.held c.args.files.now in
     let rose : Type 0 = Rose (g.F.Files.read_faults c.args.files.now) (g.F.Files.read_faults c.read_inputs.new.files) in
-    let may : List (List ℕ) → List (List ℕ) → Response → Type 0 = λ texts more. OneText (λ text. BoundAnswer name from to inputs text more) texts in
+    let may : List (List ℕ) → List (List ℕ) → Response → Type 0 = λ texts more. OneText (λ text. BoundAnswer name from to inputs bound.wanted text more) texts in
     let text = c.in-Ok.text.items in
     let more = texts_in c.in-Ok-read_inputs.inputs.items in
     record {
-      answer = prepared-widen (BoundAnswer name from to inputs text more) (MayAnswer IsFaultDiagnostic (Some (Bounds name from to inputs)) reported rose) c.bound_text.result
+      answer = prepared-widen (BoundAnswer name from to inputs bound.wanted text more) (MayAnswer IsFaultDiagnostic (Some (Bounds name from to inputs bound.wanted)) reported rose) c.bound_text.result
           (λ r m. parts-then (name ∷ []) (names_of inputs) 1 may reported (g.F.Files.held c.read_file.new.files) rose (text ∷ []) more r c.read_file.ensures.stays.same refl
           (held-one reported name text c.in-Ok.ensures.read.0 c.in-Ok.ensures.read.1) c.in-Ok-read_inputs.ensures.read m)
           (rw (c.deref.ensures.value, c.deref-in-Ok-read_inputs.ensures.value) at c.bound_text.ensures);
@@ -59,7 +59,7 @@ returns g c =
     let reported = g.F.Files.held c.args.files.now in
     let rose : Type 0 = Rose (g.F.Files.read_faults c.read_file.new.files) (g.F.Files.read_faults c.read_inputs.new.files) in
     let later : Type 0 = Rose (g.F.Files.read_faults c.args.files.now) (g.F.Files.read_faults c.read_inputs.new.files) in
-    let may : List (List ℕ) → List (List ℕ) → Response → Type 0 = λ texts more. OneText (λ text. BoundAnswer name from to inputs text more) texts in
+    let may : List (List ℕ) → List (List ℕ) → Response → Type 0 = λ texts more. OneText (λ text. BoundAnswer name from to inputs bound.wanted text more) texts in
     record {
       answer = second-missed (name ∷ []) (names_of inputs) (c.in-Ok.text.items ∷ []) (Parted 1 may) reported (g.F.Files.held c.read_file.new.files) rose later c.in-Err-read_inputs.refusal
           c.read_file.ensures.stays.same (held-one reported name c.in-Ok.text.items c.in-Ok.ensures.read.0 c.in-Ok.ensures.read.1) (λ r. omega (arith, r, c.read_file.ensures.stays.later)) c.in-Err-read_inputs.ensures.read;

@@ -1,6 +1,6 @@
 use Rattle.std.proofs.Common.{◌≡◌, ◌++◌, length}
 use Rattle.std.specs.Prelude.{flat_map}
-use Rattle.kc_kit_bound.specs.Reports.{at_text}
+use Rattle.kc_kit_bound.specs.Texts.{at_text}
 use Rattle.kc_kit_bound.proofs.reports.put_each.Given as goal
 
 abbrev pub invariant-loop-left : goal.invariant-loop-left

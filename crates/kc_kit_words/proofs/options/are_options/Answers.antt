@@ -1,18 +1,16 @@
-use Rattle.std.proofs.Common.{◌≤◌, ◌∙◌, sym, length, arith}
-use Rattle.kc_kit_words.proofs.OptionLemmas.{are_options-first, are_options-short}
+use Rattle.std.proofs.Common.{true, false, ◌∙◌, sym, map, string_bytes}
+use Rattle.kc_kit_words.proofs.OptionLemmas.{are_options-first, are_options-none}
 use Rattle.kc_kit_words.proofs.options.are_options.Goals as goal
 
 pub returns-then-not-may_stand : goal.returns-then-not-may_stand
 returns-then-not-may_stand c =
-    let two : 2 ≤ length c.loop-left.left.now = omega (arith, c.in-len2-up.len_at_least) in
-    sym (c.loop-left.invariant ∙ are_options-first c.args.verb.now c.as_str.result.now c.as_str-in-len2-up.result.now c.loop-left.left.now c.option-item.result c.value-item.result _ two
-    c.option-item.is c.value-item.is c.as_str.ensures.value c.as_str-in-len2-up.ensures.value (sym c.may_stand.ensures ∙ c.if-not-may_stand.true))
+    sym (c.loop-option.invariant ∙ are_options-first c.args.verb.now (map string_bytes c.loop-option.left.now) (c.in-Some.option.now, c.in-Some.value.now) (map string_bytes c.in-Some.rest.now) false
+    (sym c.in-Some.ensures.first) (sym c.if-not-may_stand.ensures))
 
-pub loop-left-preserved : goal.loop-left-preserved
-loop-left-preserved c =
-    let two : 2 ≤ length c.loop-left.left.now = omega (arith, c.in-len2-up.len_at_least) in
-    c.loop-left.invariant ∙ are_options-first c.args.verb.now c.as_str.result.now c.as_str-in-len2-up.result.now c.loop-left.left.now c.option-item.result c.value-item.result _ two
-    c.option-item.is c.value-item.is c.as_str.ensures.value c.as_str-in-len2-up.ensures.value (sym c.may_stand.ensures ∙ c.if-not-may_stand.false)
+pub loop-option-preserved : goal.loop-option-preserved
+loop-option-preserved c =
+    c.loop-option.invariant ∙ are_options-first c.args.verb.now (map string_bytes c.loop-option.left.now) (c.in-Some.option.now, c.in-Some.value.now) (map string_bytes c.in-Some.rest.now) true
+    (sym c.in-Some.ensures.first) (sym c.if-not-may_stand.ensures)
 
 pub returns : goal.returns
-returns c = c.is_empty.ensures ∙ sym (c.loop-left.invariant ∙ are_options-short c.args.verb.now c.loop-left.left.now (omega (arith, c.in_default.len_below)))
+returns c = c.is_empty.ensures ∙ sym (c.loop-option.invariant ∙ are_options-none c.args.verb.now c.loop-option.left.now (sym c.in_default.ensures.first))

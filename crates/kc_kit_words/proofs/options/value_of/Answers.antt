@@ -1,18 +1,16 @@
-use Rattle.std.proofs.Common.{◌≤◌, ◌∙◌, sym, length, arith}
-use Rattle.kc_kit_words.proofs.OptionLemmas.{value_of-here, value_of-next, value_of-short}
+use Rattle.std.proofs.Common.{true, false, ◌∙◌, sym, map, string_bytes}
+use Rattle.kc_kit_words.proofs.OptionLemmas.{value_of-first, value_of-none}
 use Rattle.kc_kit_words.proofs.options.value_of.Goals as goal
 
 pub returns-then-eq : goal.returns-then-eq
 returns-then-eq c =
-    let two : 2 ≤ length c.loop-left.left.now = omega (arith, c.in-len2-up.len_at_least) in
-    sym (c.loop-left.invariant ∙ value_of-here c.args.option.now c.as_str.result.now c.as_str-then-eq.result.now c.loop-left.left.now c.word-item.result c.value-item.result two
-    c.word-item.is c.value-item.is c.as_str.ensures.value c.as_str-then-eq.ensures.value (sym c.eq.ensures ∙ c.if-eq.true))
+    sym (c.loop-word.invariant ∙ value_of-first c.args.option.now (map string_bytes c.loop-word.left.now) (c.in-Some.word.now, c.in-Some.value.now) (map string_bytes c.in-Some.rest.now) true
+    (sym c.in-Some.ensures.first) (sym c.if-eq.ensures))
 
-pub loop-left-preserved : goal.loop-left-preserved
-loop-left-preserved c =
-    let two : 2 ≤ length c.loop-left.left.now = omega (arith, c.in-len2-up.len_at_least) in
-    c.loop-left.invariant ∙ value_of-next c.args.option.now c.as_str.result.now c.loop-left.left.now c.word-item.result c.value-item.result two
-    c.word-item.is c.value-item.is c.as_str.ensures.value (sym c.eq.ensures ∙ c.if-eq.false)
+pub loop-word-preserved : goal.loop-word-preserved
+loop-word-preserved c =
+    c.loop-word.invariant ∙ value_of-first c.args.option.now (map string_bytes c.loop-word.left.now) (c.in-Some.word.now, c.in-Some.value.now) (map string_bytes c.in-Some.rest.now) false
+    (sym c.in-Some.ensures.first) (sym c.if-eq.ensures)
 
 pub returns : goal.returns
-returns c = sym (c.loop-left.invariant ∙ value_of-short c.args.option.now c.loop-left.left.now (omega (arith, c.in_default.len_below)))
+returns c = sym (c.loop-word.invariant ∙ value_of-none c.args.option.now (map string_bytes c.loop-word.left.now) (sym c.in_default.ensures.first))

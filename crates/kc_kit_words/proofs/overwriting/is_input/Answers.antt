@@ -1,22 +1,20 @@
-use Rattle.std.proofs.Common.{◌≤◌, ◌∙◌, ap, sym, length, arith}
+use Rattle.std.proofs.Common.{true, false, ◌∙◌, ap, sym, map, string_bytes}
 use Rattle.std.specs.List.{list_any}
 use Rattle.std.specs.Str.{bytes_eq}
 use Rattle.kc_kit_words.specs.Commands.{names_of}
-use Rattle.kc_kit_words.proofs.OptionLemmas.{is_named-first, inputs_of-short}
+use Rattle.kc_kit_words.proofs.OptionLemmas.{is_named-first, inputs_of-none}
 use Rattle.kc_kit_words.proofs.overwriting.is_input.Goals as goal
 
 pub returns-then-names_it : goal.returns-then-names_it
 returns-then-names_it c =
-    let two : 2 ≤ length c.loop-left.left.now = omega (arith, c.in-len2-up.len_at_least) in
-    sym (c.loop-left.invariant ∙ is_named-first c.args.inputs.verb.now c.as_str.result.now c.as_str-in-len2-up.result.now c.args.name.now c.loop-left.left.now c.option-item.result c.value-item.result _ two
-    c.option-item.is c.value-item.is c.as_str.ensures.value c.as_str-in-len2-up.ensures.value (sym c.names_it.ensures ∙ c.if-names_it.true))
+    sym (c.loop-option.invariant ∙ is_named-first c.args.inputs.verb.now c.args.name.now (map string_bytes c.loop-option.left.now) (c.in-Some.option.now, c.in-Some.value.now) (map string_bytes c.in-Some.rest.now) true
+    (sym c.in-Some.ensures.first) (sym c.if-names_it.ensures))
 
-pub loop-left-preserved : goal.loop-left-preserved
-loop-left-preserved c =
-    let two : 2 ≤ length c.loop-left.left.now = omega (arith, c.in-len2-up.len_at_least) in
-    c.loop-left.invariant ∙ is_named-first c.args.inputs.verb.now c.as_str.result.now c.as_str-in-len2-up.result.now c.args.name.now c.loop-left.left.now c.option-item.result c.value-item.result _ two
-    c.option-item.is c.value-item.is c.as_str.ensures.value c.as_str-in-len2-up.ensures.value (sym c.names_it.ensures ∙ c.if-names_it.false)
+pub loop-option-preserved : goal.loop-option-preserved
+loop-option-preserved c =
+    c.loop-option.invariant ∙ is_named-first c.args.inputs.verb.now c.args.name.now (map string_bytes c.loop-option.left.now) (c.in-Some.option.now, c.in-Some.value.now) (map string_bytes c.in-Some.rest.now) false
+    (sym c.in-Some.ensures.first) (sym c.if-names_it.ensures)
 
 pub returns : goal.returns
 returns c =
-    sym (c.loop-left.invariant ∙ ap (λ i. list_any (λ n. bytes_eq n c.args.name.now) (names_of i)) (inputs_of-short c.args.inputs.verb.now c.loop-left.left.now (omega (arith, c.in_default.len_below))))
+    sym (c.loop-option.invariant ∙ ap (λ i. list_any (λ n. bytes_eq n c.args.name.now) (names_of i)) (inputs_of-none c.args.inputs.verb.now (map string_bytes c.loop-option.left.now) (sym c.in_default.ensures.first)))

@@ -1,5 +1,0 @@
-use Rattle.kc_bound_latency.proofs.Gaps.{gaps-short}
-use Rattle.kc_bound_latency.proofs.laws.gaps_are_short.Goals as goal
-
-pub returns : goal.returns
-returns g c = gaps-short c.found_is_decoded.ensures c.states_are_most.ensures c.states_are_some.ensures c.turn_is_paid.ensures

@@ -1,5 +1,0 @@
-use Rattle.kc_bound_latency.proofs.Gaps.{waits-short}
-use Rattle.kc_bound_latency.proofs.laws.waits_are_short.Goals as goal
-
-pub returns : goal.returns
-returns g c = waits-short c.highest_is_entered.ensures c.gaps_are_short.ensures

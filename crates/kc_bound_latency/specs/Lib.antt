@@ -1,4 +1,0 @@
-pub mod Asking
-pub mod Latency
-pub mod Gaps
-pub mod Times

@@ -1,0 +1,4 @@
+pub mod Leading
+pub mod Turning
+pub mod Spending
+pub mod PartLemmas
