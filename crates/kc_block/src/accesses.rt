@@ -24,7 +24,7 @@ fn state_before(time: StateTime) -> StateTime
 }
 
 /// The printed pins that are high at the start of a state.
-fn printed_at<X: Extra>(scheduler: &Scheduler<X>, time: StateTime) -> u64
+pub(crate) fn printed_at<X: Extra>(scheduler: &Scheduler<X>, time: StateTime) -> u64
     requires { IsScheduled X.further X.agrees (standing X.plain scheduler.now) time }
     ensures { result ≡ printed_of (shown_units X.further (standing X.plain scheduler.now) time).board_registers
         (shown_units X.further (standing X.plain scheduler.now) time).hso }

@@ -7,6 +7,7 @@
 
 mod accesses;
 mod block;
+mod holding;
 mod lent;
 mod timed;
 

@@ -3,4 +3,5 @@ pub mod Acts
 pub mod Outcomes
 pub mod Words
 pub mod Calls
+pub mod Due
 pub mod PlainLemmas

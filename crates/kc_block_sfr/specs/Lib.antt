@@ -1,3 +1,4 @@
 pub mod Left
 pub mod Costs
 pub mod PlainBus
+pub mod Holding

@@ -6,6 +6,7 @@
 #![tactic(auto)]
 
 mod acting;
+mod holding;
 mod keeping_registers;
 mod laws;
 mod looking;
@@ -15,6 +16,7 @@ mod seeing;
 mod values;
 mod writing;
 
+pub use holding::{hsi_holding, hsi_waiting, hso_due, hso_holding, hso_slots, input_levels};
 pub use laws::{
     plain_bus_has_the_masks_of_the_table, standing_units_report_what_is_shown,
     what_is_left_is_scheduled,

@@ -28,7 +28,7 @@ use Rattle.kc_bound_requests.proofs.Sets.{each-passes}
 use Rattle.kc_bound_requests.proofs.Passes.{on-way}
 use Rattle.kc_bound_requests.specs.declared.latency_certificate.LatencyCertificate.{LatencyCertificate}
 use Rattle.kc_bound_requests.specs.Asking.{asks, HighestIsEntered}
-use Rattle.kc_bound_requests.specs.Latency.{shut_at, all_turns, most_turns, is_most, ShowsShut}
+use Rattle.kc_bound_requests.specs.Latency.{shut_at, all_turns, most_turns, is_first_most, ShowsShut}
 use Rattle.kc_bound_requests.specs.Gaps.{GapsAreShort, WaitsAreShort}
 use Rattle.kc_bound_requests.proofs.Owes.{so}
 use Rattle.kc_bound_requests.proofs.Goes.{since_of, Account, Has, Counted, Behaves, behaves}
@@ -94,7 +94,7 @@ module _ {X : Type 0} (f : Further X) where
 
 -- ---- the moments of a pass
 
-asked-first : (p t turns total : ℕ) → p + t ≤ total → turns ≤ t → 0 + p + turns ≤ total
+asked-first : (p t turns total : ℕ) → p + t ≤ total → turns ≤ t → (0 + turns) + p ≤ total
 asked-first p t turns total h few = omega (arith, h, few)
 
 nothing-waited : (asking : Bool) → since_of asking 0 ≡ 0
@@ -128,10 +128,10 @@ module _ {X : Type 0} (decoded : FoundIsDecoded X) (most : StatesAreMost) (some 
   at-first m shows there pc going = record {
     few = omega arith;
     goes = λ on lives.
-        let most_first : shut_at c from (enabled_in m) + all_turns notes c ≤ total = at-most (shut_at c from (enabled_in m) + all_turns notes c) total (so (is_in first (enabled_in m)) (is_most notes c total from (enabled_in m)) (each-passes (λ e. implies (is_in first e) (is_most notes c total from e)) shows.first_most (enabled_in m)) there) in
-        let sum : 0 + shut_at c from (enabled_in m) + turns_of 0 m ≤ total = asked-first (shut_at c from (enabled_in m)) (all_turns notes c) (turns_of 0 m) total most_first (turns-of-few 0 m) in
+        let most_first : shut_at c from (enabled_in m) + all_turns notes c ≤ total = at-most (shut_at c from (enabled_in m) + all_turns notes c) total (so (is_in first (enabled_in m)) (is_first_most notes c total from (enabled_in m)) (each-passes (λ e. implies (is_in first e) (is_first_most notes c total from e)) shows.first_most (enabled_in m)) there) in
+        let sum : (0 + turns_of 0 m) + shut_at c from (enabled_in m) ≤ total = asked-first (shut_at c from (enabled_in m)) (all_turns notes c) (turns_of 0 m) total most_first (turns-of-few 0 m) in
         subst (λ (g : Option Going). Account image notes from c total g m.cpu.pc [] (enabled_in m) (since_of (asks m) 0) (turns_of 0 m)) (sym going)
-        (tt, subst (λ s. s + shut_at c m.cpu.pc (enabled_in m) + turns_of 0 m ≤ total) (sym (nothing-waited (asks m))) (subst (λ a. 0 + shut_at c a (enabled_in m) + turns_of 0 m ≤ total) (sym pc) sum));
+        (tt, (subst (λ s. (s + turns_of 0 m) + shut_at c m.cpu.pc (enabled_in m) ≤ total) (sym (nothing-waited (asks m))) (subst (λ a. (0 + turns_of 0 m) + shut_at c a (enabled_in m) ≤ total) (sym pc) sum), tt));
   }
 
   is-at : (k n : ℕ) (m : Machine X) → IsImage image → ShowsShut image notes from first c total → IsPassFrom f image notes from n m → is_in first (enabled_in m) ≡ true → k ≤ n → IsAt k m

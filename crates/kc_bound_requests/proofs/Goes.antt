@@ -41,11 +41,11 @@ use Rattle.kc_bound_requests.proofs.Steps.{in-rom}
 use Rattle.kc_bound_requests.specs.declared.latency_certificate.LatencyCertificate.{LatencyCertificate}
 use Rattle.kc_bound_requests.specs.declared.enabled.TheConstants.{EACH}
 use Rattle.kc_bound_requests.specs.Asking.{asks, lets_interrupts_in}
-use Rattle.kc_bound_requests.specs.Latency.{shut_at, shut_next, price_at, credit_at, all_turns, asks_between_words, shut_states, pays, hands_on, has_word, pays_from, pays_all, is_sound_at, is_most, asks_at, is_most_at}
+use Rattle.kc_bound_requests.specs.Latency.{shut_at, returns_at, shut_behind, price_at, credit_at, all_turns, asks_between_words, shut_states, pays, hands_on, has_word, pays_from, pays_all, is_sound_at, is_most, asks_at, is_most_at}
 use Rattle.kc_bound_requests.proofs.Choice.{Asks, asks-so}
 use Rattle.kc_bound_requests.proofs.Ways.{AllPass, Passes, Takes, Leads, SetsUp, Went}
 use Rattle.kc_bound_requests.proofs.Begins.{Assumed, lives-not, Begun, found-begun}
-use Rattle.kc_bound_requests.proofs.Owes.{so, Behind, Ahead, Owes, is_kept, way-most, owes-words, owes-to, owes-into, owes-back}
+use Rattle.kc_bound_requests.proofs.Owes.{so, is_kept, Comes, Stands, Covers, Ahead, Owes, comes-less, comes-most, comes-asked, stands-of, covers-follows, way-most, owes-words, owes-to, owes-into, owes-back}
 
 either-false : (a b : Bool) → (a || b) ≡ false → (a ≡ false) × (b ≡ false)
 either-false false b h = (refl, h)
@@ -100,13 +100,9 @@ since_of true waited = 0
 since_of false waited = waited
 
 -- what a block move still owes between two of its words, where interrupts are asked for there, and where not
-abbrev pub owed_words : Bool → ℕ → ℕ → ℕ
-owed_words true left next = 14
-owed_words false left next = 14 * left + next
-
-moving-by : (asking : Bool) (left waited next turns total : ℕ) → (asking ≡ true → 14 + turns ≤ total) → (asking ≡ false → waited + (14 * left + next) + turns ≤ total) → since_of asking waited + owed_words asking left next + turns ≤ total
-moving-by true left waited next turns total asked shut = let h : 14 + turns ≤ total = asked refl in omega (arith, h)
-moving-by false left waited next turns total asked shut = shut refl
+abbrev pub Words-left : Notes → LatencyCertificate → ℕ → Bool → ℕ → List ℕ → ℕ → ℕ → ℕ → Enabled → Type 0
+Words-left notes c total true left calls since turns a e = since + 14 + turns ≤ total
+Words-left notes c total false left calls since turns a e = Comes notes c total calls ((since + 14 * left) + turns) a e
 
 module _ (image : List ℕ) (notes : Notes) (from : ℕ) (c : LatencyCertificate) (total : ℕ) where
   -- where interrupts are asked for
@@ -118,9 +114,16 @@ module _ (image : List ℕ) (notes : Notes) (from : ℕ) (c : LatencyCertificate
       (each-passes (λ x. implies (is_in (enabled_at c.requests a).before x && asks_at (work_at image a) x) (is_most notes c total a x && has_word notes c total (work_at image a) x)) all e)
       (and-true (is_in (enabled_at c.requests a).before e) (asks_at (work_at image a) e) there on)
 
-  asking-most : (a : ℕ) (e : Enabled) → is_most_at image notes from c total a ≡ true → is_past notes from a ≡ false → is_in (enabled_at c.requests a).before e ≡ true → asks_at (work_at image a) e ≡ true → shut_at c a e + all_turns notes c ≤ total
+  asking-most : (a : ℕ) (e : Enabled) → is_most_at image notes from c total a ≡ true → is_past notes from a ≡ false → is_in (enabled_at c.requests a).before e ≡ true → asks_at (work_at image a) e ≡ true
+      → (shut_at c a e + all_turns notes c ≤ total) × ((n : Enabled) → is_in (returns_at c a e) n ≡ true → shut_at c a e + shut_behind c a n + all_turns notes c ≤ total)
   asking-most a e each asked there on =
-      at-most (shut_at c a e + all_turns notes c) total (both (is_most notes c total a e) (has_word notes c total (work_at image a) e) (asking-both a e each asked there on)).0
+      let most : is_most notes c total a e ≡ true = (both (is_most notes c total a e) (has_word notes c total (work_at image a) e) (asking-both a e each asked there on)).0 in
+      let parts = both (nat_le (shut_at c a e + all_turns notes c) total) (list_all (λ x. implies (is_in (returns_at c a e) x) (nat_le (shut_at c a e + shut_behind c a x + all_turns notes c) total)) EACH) most in (
+        at-most (shut_at c a e + all_turns notes c) total parts.0,
+        λ n returns. at-most (shut_at c a e + shut_behind c a n + all_turns notes c) total
+            (so (is_in (returns_at c a e) n) (nat_le (shut_at c a e + shut_behind c a n + all_turns notes c) total)
+            (each-passes (λ x. implies (is_in (returns_at c a e) x) (nat_le (shut_at c a e + shut_behind c a x + all_turns notes c) total)) parts.1 n) returns),
+      )
 
   -- and between the words of a block move
   asking-word : (a : ℕ) (e : Enabled) → is_most_at image notes from c total a ≡ true → is_past notes from a ≡ false → is_in (enabled_at c.requests a).before e ≡ true → asks_at (work_at image a) e ≡ true → asks_between_words (work_at image a) e ≡ true → 14 + all_turns notes c ≤ total
@@ -131,15 +134,20 @@ module _ (image : List ℕ) (notes : Notes) (from : ℕ) (c : LatencyCertificate
 
   -- so many states after interrupts were asked for, at the begin of an instruction, and between the words of a block move
   abbrev pub Account : Option Going → ℕ → List ℕ → Enabled → ℕ → ℕ → Type 0
-  Account None pc calls e since turns = Behind notes c pc calls × (since + shut_at c pc e + turns ≤ total)
+  Account None pc calls e since turns = Covers notes c total calls (shut_behind c pc) × Stands notes c total calls (since + turns) pc e
   Account (Some (Moving i w)) pc calls e since turns =
-      (0 < w.left) × Ahead notes c (next_pc i pc) calls × (since + owed_words (w.interruptible && e.interrupts) w.left (shut_next notes c (next_pc i pc) (unheld e)) + turns ≤ total)
+      (0 < w.left) × Ahead notes c total (next_pc i pc) calls × Words-left notes c total (w.interruptible && e.interrupts) w.left calls since turns (next_pc i pc) (unheld e)
   Account (Some Idling) pc calls e since turns = ⊥
   Account (Some (Serving number cycle)) pc calls e since turns = ⊥
 
-  behind-there : (a : ℕ) (calls : List ℕ) → is_end notes a ≡ false → Ahead notes c a calls → Behind notes c a calls
+  behind-there : (a : ℕ) (calls : List ℕ) → is_end notes a ≡ false → Ahead notes c total a calls → Covers notes c total calls (shut_behind c a)
   behind-there a calls going_on (inl over) = absurd (let e : true ≡ false = sym over ∙ going_on in cc e)
   behind-there a calls going_on (inr behind) = behind
+
+  words-by : (asking : Bool) (left : ℕ) (calls : List ℕ) (waited turns a : ℕ) (e : Enabled) → (asking ≡ true → 14 + turns ≤ total) → (asking ≡ false → Comes notes c total calls ((waited + 14 * left) + turns) a e)
+      → Words-left notes c total asking left calls (since_of asking waited) turns a e
+  words-by true left calls waited turns a e asked shut = let h : 14 + turns ≤ total = asked refl in omega (arith, h)
+  words-by false left calls waited turns a e asked shut = shut refl
 
   module _ {X : Type 0} where
     abbrev pub Has : Machine X → List ℕ → ℕ → ℕ → Type 0
@@ -154,28 +162,38 @@ module _ (image : List ℕ) (notes : Notes) (from : ℕ) (c : LatencyCertificate
     asks-lets n between lives none = rw (between, lives, none) refl
 
     module _ (each_most : (a : ℕ) → is_most_at image notes from c total a ≡ true) where
-      anew : (n : Machine X) (calls : List ℕ) (turns : ℕ) → IsOnWay image notes from c.requests n calls → n.going ≡ None → asks n ≡ true → turns ≤ all_turns notes c → 0 + shut_at c n.cpu.pc (enabled_in n) + turns ≤ total
-      anew n calls turns on none asked few =
+      anew : (n : Machine X) (calls : List ℕ) (turns : ℕ) → IsOnWay image notes from c.requests n calls → n.going ≡ None → asks n ≡ true → turns ≤ all_turns notes c → Covers notes c total calls (shut_behind c n.cpu.pc)
+          → Stands notes c total calls (0 + turns) n.cpu.pc (enabled_in n)
+      anew n calls turns on none asked few behind =
           let a : Asks n = asks-so n asked in
           let there = begins-allowed n calls on none in
           let may : asks_at (work_at image n.cpu.pc) (enabled_in n) ≡ true = rw (a.on, a.free) refl in
-          let most : shut_at c n.cpu.pc (enabled_in n) + all_turns notes c ≤ total = asking-most n.cpu.pc (enabled_in n) (each_most n.cpu.pc) there.0 there.1.before may in
-          omega (arith, most, few)
+          let most = asking-most n.cpu.pc (enabled_in n) (each_most n.cpu.pc) there.0 there.1.before may in (
+            few-turns turns (shut_at c n.cpu.pc (enabled_in n)) (all_turns notes c) few most.0,
+            covers-follows notes c total calls ((0 + turns) + shut_at c n.cpu.pc (enabled_in n)) (shut_behind c n.cpu.pc) (returns_at c n.cpu.pc (enabled_in n))
+                (λ e returns. few-behind turns (shut_at c n.cpu.pc (enabled_in n)) (shut_behind c n.cpu.pc e) (all_turns notes c) few (most.1 e returns)) behind,
+          )
+        where
+          few-turns : (turns p all : ℕ) → turns ≤ all → p + all ≤ total → (0 + turns) + p ≤ total
+          few-turns turns p all few sum = omega (arith, few, sum)
+
+          few-behind : (turns p b all : ℕ) → turns ≤ all → p + b + all ≤ total → ((0 + turns) + p) + b ≤ total
+          few-behind turns p b all few sum = omega (arith, few, sum)
 
       arrives-by : (asking : Bool) (n : Machine X) (calls : List ℕ) (waited turns : ℕ) → asks n ≡ asking → IsOnWay image notes from c.requests n calls → n.ended ≡ None → n.going ≡ None → is_end notes n.cpu.pc ≡ false → turns ≤ all_turns notes c
-          → waited + shut_next notes c n.cpu.pc (enabled_in n) + turns ≤ total → since_of asking waited + shut_at c n.cpu.pc (enabled_in n) + turns ≤ total
-      arrives-by true n calls waited turns is on lives none going_on few owed = anew n calls turns on none is few
-      arrives-by false n calls waited turns is on lives none going_on few owed =
+          → Covers notes c total calls (shut_behind c n.cpu.pc) → Comes notes c total calls (waited + turns) n.cpu.pc (enabled_in n) → Stands notes c total calls (since_of asking waited + turns) n.cpu.pc (enabled_in n)
+      arrives-by true n calls waited turns is on lives none going_on few behind owed = anew n calls turns on none is few behind
+      arrives-by false n calls waited turns is on lives none going_on few behind owed =
           let lets : lets_interrupts_in (enabled_in n) ≡ false = sym (asks-lets n on.is.between lives none) ∙ is in
-          let same : shut_next notes c n.cpu.pc (enabled_in n) ≡ shut_at c n.cpu.pc (enabled_in n) = rw (lets, going_on) refl in
-          subst (λ x. waited + x + turns ≤ total) same owed
+          stands-of notes c total calls (waited + turns) n.cpu.pc (enabled_in n) lets going_on owed
 
       pub arrives : (n : Machine X) (target : ℕ) (calls : List ℕ) (waited turns : ℕ) → IsOnWay image notes from c.requests n calls → n.ended ≡ None → n.going ≡ None → n.cpu.pc ≡ target → is_end notes n.cpu.pc ≡ false → turns ≤ all_turns notes c
           → Owes notes c total target calls (enabled_in n) waited turns → Has n calls (since_of (asks n) waited) turns
       arrives n target calls waited turns on lives none pc going_on few o =
           let owes : Owes notes c total n.cpu.pc calls (enabled_in n) waited turns = subst (λ a. Owes notes c total a calls (enabled_in n) waited turns) (sym pc) o in
+          let behind : Covers notes c total calls (shut_behind c n.cpu.pc) = behind-there n.cpu.pc calls going_on owes.ahead in
           subst (λ (g : Option Going). Account g n.cpu.pc calls (enabled_in n) (since_of (asks n) waited) turns) (sym none)
-          (behind-there n.cpu.pc calls going_on owes.ahead, arrives-by (asks n) n calls waited turns refl on lives none going_on few owes.owed)
+          (behind, arrives-by (asks n) n calls waited turns refl on lives none going_on few behind owes.owed)
 
     -- ---- between the words of a block move
 
@@ -188,27 +206,24 @@ module _ (image : List ℕ) (notes : Notes) (from : ℕ) (c : LatencyCertificate
         by false b = refl
 
     -- it stands there with so many words left, at an address
-    pub stands-moving : (n : Machine X) (i : Insn) (w : Words) (a : ℕ) (calls : List ℕ) (waited turns : ℕ) → n.under_way ≡ None → n.ended ≡ None → n.going ≡ Some (Moving i w) → n.held ≡ false → n.cpu.pc ≡ a → 0 < w.left → Ahead notes c (next_pc i a) calls
-        → ((w.interruptible && (enabled_in n).interrupts) ≡ true → 14 + turns ≤ total) → ((w.interruptible && (enabled_in n).interrupts) ≡ false → waited + (14 * w.left + shut_next notes c (next_pc i a) (unheld (enabled_in n))) + turns ≤ total)
+    pub stands-moving : (n : Machine X) (i : Insn) (w : Words) (a : ℕ) (calls : List ℕ) (waited turns : ℕ) → n.under_way ≡ None → n.ended ≡ None → n.going ≡ Some (Moving i w) → n.held ≡ false → n.cpu.pc ≡ a → 0 < w.left → Ahead notes c total (next_pc i a) calls
+        → ((w.interruptible && (enabled_in n).interrupts) ≡ true → 14 + turns ≤ total) → ((w.interruptible && (enabled_in n).interrupts) ≡ false → Comes notes c total calls ((waited + 14 * w.left) + turns) (next_pc i a) (unheld (enabled_in n)))
         → Has n calls (since_of (asks n) waited) turns
     stands-moving n i w a calls waited turns between lives going free pc some ahead asked shut =
         let is : asks n ≡ (w.interruptible && (enabled_in n).interrupts) = asks-words n i w between lives going free in
-        let sum : since_of (w.interruptible && (enabled_in n).interrupts) waited + owed_words (w.interruptible && (enabled_in n).interrupts) w.left (shut_next notes c (next_pc i a) (unheld (enabled_in n))) + turns ≤ total =
-        moving-by (w.interruptible && (enabled_in n).interrupts) w.left waited (shut_next notes c (next_pc i a) (unheld (enabled_in n))) turns total asked shut in
-        let there : Account (Some (Moving i w)) a calls (enabled_in n) (since_of (asks n) waited) turns = (some, ahead, subst (λ b. since_of b waited + owed_words (w.interruptible && (enabled_in n).interrupts) w.left (shut_next notes c (next_pc i a) (unheld (enabled_in n))) + turns ≤ total) (sym is) sum) in
+        let owed : Words-left notes c total (w.interruptible && (enabled_in n).interrupts) w.left calls (since_of (w.interruptible && (enabled_in n).interrupts) waited) turns (next_pc i a) (unheld (enabled_in n)) =
+        words-by (w.interruptible && (enabled_in n).interrupts) w.left calls waited turns (next_pc i a) (unheld (enabled_in n)) asked shut in
+        let there : Account (Some (Moving i w)) a calls (enabled_in n) (since_of (asks n) waited) turns =
+        (some, ahead, subst (λ b. Words-left notes c total (w.interruptible && (enabled_in n).interrupts) w.left calls (since_of b waited) turns (next_pc i a) (unheld (enabled_in n))) (sym is) owed) in
         subst (λ (g : Option Going). Account g n.cpu.pc calls (enabled_in n) (since_of (asks n) waited) turns) (sym going) (subst (λ x. Account (Some (Moving i w)) x calls (enabled_in n) (since_of (asks n) waited) turns) (sym pc) there)
 
 -- ---- one activity
 
-less-word : (waited left next turns total w : ℕ) → 0 < w → left ≤ 14 → waited + (14 * w + next) + turns ≤ total → (waited + left) + (14 * (w - 1) + next) + turns ≤ total
-less-word waited left next turns total w some few h = omega (arith, some, few, h)
+less-word : (waited left turns w : ℕ) → 0 < w → left ≤ 14 → ((waited + left) + 14 * (w - 1)) + turns ≤ (waited + 14 * w) + turns
+less-word waited left turns w some few = omega (arith, some, few)
 
-last-word : (waited left next turns total w : ℕ) → 0 < w → left ≤ 14 → waited + (14 * w + next) + turns ≤ total → (waited + left) + next + turns ≤ total
-last-word waited left next turns total w some few h = omega (arith, some, few, h)
-
-word-most : (asking : Bool) (since k left next turns total : ℕ) → 0 < left → k ≤ 14 → since + owed_words asking left next + turns ≤ total → since + k ≤ total
-word-most true since k left next turns total more few owed = omega (arith, few, owed)
-word-most false since k left next turns total more few owed = omega (arith, more, few, owed)
+last-word : (waited left turns w : ℕ) → 0 < w → left ≤ 14 → (waited + left) + turns ≤ (waited + 14 * w) + turns
+last-word waited left turns w some few = omega (arith, some, few)
 
 word-some : (w : Words) → 0 < word_states_of w
 word-some w = omega arith
@@ -251,7 +266,7 @@ module _ {X : Type 0} (decoded : FoundIsDecoded X) (most : StatesAreMost) (some 
   -- ---- an instruction that begins
 
   module _ (s : IsShown) (m : Machine X) (calls : List ℕ) (since turns after : ℕ) (there : IsThere m calls turns after) where
-    module _ (work : Option Plan) (behind : Behind notes c m.cpu.pc calls) (paid : since + shut_at c m.cpu.pc (enabled_in m) + turns ≤ total) (counted : after + price_at notes c m.cpu.pc ≤ turns + credit_at notes c m.cpu.pc) where
+    module _ (work : Option Plan) (behind : Covers notes c total calls (shut_behind c m.cpu.pc)) (paid : Stands notes c total calls (since + turns) m.cpu.pc (enabled_in m)) (counted : after + price_at notes c m.cpu.pc ≤ turns + credit_at notes c m.cpu.pc) where
       abbrev Kept-way : Way → Bool
       Kept-way way = is_kept notes c work m.cpu.pc (enabled_in m) way
 
@@ -268,13 +283,13 @@ module _ {X : Type 0} (decoded : FoundIsDecoded X) (most : StatesAreMost) (some 
             → Leads notes (is_kept notes c work m.cpu.pc (enabled_in m)) work m.cpu.pc (enabled_in m) k calls n now way → Has image notes from c total n now (since_of (asks n) (since + k)) after
         arrived (To states target) few pass going on leads =
             arrives image notes from c total s.each_most n target now (since + k) after allowed lives going leads.0 on there.few
-            (subst (λ x. Owes notes c total target x (enabled_in n) (since + k) after) (sym leads.1) (owes-to notes c work m.cpu.pc (enabled_in m) total since turns after calls paid counted behind states target k (enabled_in n) few leaves pass))
+            (subst (λ x. Owes notes c total target x (enabled_in n) (since + k) after) (sym leads.1) (owes-to notes c total work m.cpu.pc (enabled_in m) since turns after calls paid counted behind states target k (enabled_in n) few leaves pass))
         arrived (Call states target back) few pass going on leads =
             arrives image notes from c total s.each_most n target now (since + k) after allowed lives going leads.0 on there.few
-            (subst (λ x. Owes notes c total target x (enabled_in n) (since + k) after) (sym leads.1) (owes-into notes c work m.cpu.pc (enabled_in m) total since turns after calls paid counted behind states target back k (enabled_in n) few leaves pass))
+            (subst (λ x. Owes notes c total target x (enabled_in n) (since + k) after) (sym leads.1) (owes-into notes c total work m.cpu.pc (enabled_in m) since turns after calls paid counted behind states target back k (enabled_in n) few leaves pass))
         arrived (Back states) few pass going on leads =
             arrives image notes from c total s.each_most n n.cpu.pc now (since + k) after allowed lives going refl on there.few
-            (owes-back notes c work m.cpu.pc (enabled_in m) total since turns after calls paid counted behind states n.cpu.pc k now (enabled_in n) leads few leaves pass)
+            (owes-back notes c total work m.cpu.pc (enabled_in m) since turns after calls paid counted behind states n.cpu.pc k now (enabled_in n) leads few leaves pass)
         arrived (Out states) few pass going on leads = absurd leads
 
         -- the words of a block move follow
@@ -289,9 +304,13 @@ module _ {X : Type 0} (decoded : FoundIsDecoded X) (most : StatesAreMost) (some 
             let most : 14 + all_turns notes c ≤ total = asking-word image notes from c total m.cpu.pc (enabled_in m) (s.each_most m.cpu.pc) asked before (subst (λ (p : Option Plan). asks_at p (enabled_in m) ≡ true) is_work (may-ask (enabled_in m) work on)) asks_here in
             let few : after ≤ all_turns notes c = there.few in
             omega (arith, most, few)))
-            (λ shut. subst (λ (e : Enabled). (since + k) + (14 * u.words.left + shut_next notes c (next_pc u.insn m.cpu.pc) e) + after ≤ total) unheld-same
-            (subst (λ b. (since + k) + ((if b then 0 else 14 * u.words.left) + shut_next notes c (next_pc u.insn m.cpu.pc) (enabled_in n)) + after ≤ total) (sym between ∙ shut) owed.1)))
+            (λ shut. subst (λ x. Comes notes c total calls (x + after) (next_pc u.insn m.cpu.pc) (unheld (enabled_in n))) (one-sum since k (14 * u.words.left))
+            (subst (λ (e : Enabled). Comes notes c total calls ((since + (k + 14 * u.words.left)) + after) (next_pc u.insn m.cpu.pc) e) unheld-same
+            (subst (λ b. Comes notes c total calls ((since + (k + (if b then 0 else 14 * u.words.left))) + after) (next_pc u.insn m.cpu.pc) (enabled_in n)) (sym between ∙ shut) owed.1))))
           where
+            one-sum : (since k x : ℕ) → since + (k + x) ≡ (since + k) + x
+            one-sum since k x = omega arith
+
             leaves-so : unheld (enabled_in m) ≡ enabled_in n
             leaves-so = equal (unheld (enabled_in m)) (enabled_in n) (subst (λ (p : Option Plan). may_leave p (enabled_in m) (enabled_in n) ≡ true) u.is leaves)
 
@@ -309,13 +328,13 @@ module _ {X : Type 0} (decoded : FoundIsDecoded X) (most : StatesAreMost) (some 
             enough = subst (λ (o : Option ℕ). k + (if asks_between_words work (enabled_in m) then 0 else 14 * u.words.left) ≤ shut_states work o (enabled_in m) (u.set_up + 14 * u.most)) (sym u.noted)
                 (room (asks_between_words work (enabled_in m)) k u.set_up u.most u.words.left u.takes u.few)
 
-            owed : Ahead notes c (next_pc u.insn m.cpu.pc) calls × ((since + k) + ((if asks_between_words work (enabled_in m) then 0 else 14 * u.words.left) + shut_next notes c (next_pc u.insn m.cpu.pc) (enabled_in n)) + after ≤ total)
-            owed = owes-words notes c work m.cpu.pc (enabled_in m) total since turns after calls paid counted behind (u.set_up + 14 * u.most) (next_pc u.insn m.cpu.pc) k (if asks_between_words work (enabled_in m) then 0 else 14 * u.words.left) (enabled_in n) enough leaves u.passes
+            owed : Ahead notes c total (next_pc u.insn m.cpu.pc) calls × Comes notes c total calls ((since + (k + (if asks_between_words work (enabled_in m) then 0 else 14 * u.words.left))) + after) (next_pc u.insn m.cpu.pc) (enabled_in n)
+            owed = owes-words notes c total work m.cpu.pc (enabled_in m) since turns after calls paid counted behind (u.set_up + 14 * u.most) (next_pc u.insn m.cpu.pc) k (if asks_between_words work (enabled_in m) then 0 else 14 * u.words.left) (enabled_in n) enough leaves u.passes
 
     -- the activity of an instruction that begins
-    begin-behaves : m.going ≡ None → Behind notes c m.cpu.pc calls → since + shut_at c m.cpu.pc (enabled_in m) + turns ≤ total → Behaves m calls since after
+    begin-behaves : m.going ≡ None → Covers notes c total calls (shut_behind c m.cpu.pc) → Stands notes c total calls (since + turns) m.cpu.pc (enabled_in m) → Behaves m calls since after
     begin-behaves none behind paid = record {
-      most_there = (let sum : (since + (current m).left) + after ≤ total = way-most notes c (work_at image m.cpu.pc) m.cpu.pc (enabled_in m) total since turns after calls paid counted behind b.has.0 (current m).left b.has.1 b.has.2 in omega (arith, sum));
+      most_there = (let sum : (since + (current m).left) + after ≤ total = way-most notes c total (work_at image m.cpu.pc) m.cpu.pc (enabled_in m) since turns after calls paid counted behind b.has.0 (current m).left b.has.1 b.has.2 in omega (arith, sum));
       goes = λ lives on allowed.
           let parts = either-false (is_last (current m).doing calls) (is_at_end notes (after_activity f m)) on in
           let change : may_change (current m).doing (enabled_in m) (enabled_in (after_activity f m)) ≡ true = activity-changes f m there.lives b.some_left there.own lives in
@@ -353,10 +372,10 @@ module _ {X : Type 0} (decoded : FoundIsDecoded X) (most : StatesAreMost) (some 
 
     -- ---- a word of a block move
 
-    word-behaves : (i : Insn) (w : Words) → m.going ≡ Some (Moving i w) → 0 < w.left → Ahead notes c (next_pc i m.cpu.pc) calls
-        → since + owed_words (w.interruptible && (enabled_in m).interrupts) w.left (shut_next notes c (next_pc i m.cpu.pc) (unheld (enabled_in m))) + turns ≤ total → Behaves m calls since after
+    word-behaves : (i : Insn) (w : Words) → m.going ≡ Some (Moving i w) → 0 < w.left → Ahead notes c total (next_pc i m.cpu.pc) calls
+        → Words-left notes c total (w.interruptible && (enabled_in m).interrupts) w.left calls since turns (next_pc i m.cpu.pc) (unheld (enabled_in m)) → Behaves m calls since after
     word-behaves i w going more ahead owed = record {
-      most_there = word-most (w.interruptible && (enabled_in m).interrupts) since (current m).left w.left (shut_next notes c (next_pc i m.cpu.pc) (unheld (enabled_in m))) turns total more few owed;
+      most_there = word-most (w.interruptible && (enabled_in m).interrupts) owed;
       goes = λ lives on allowed.
           let on_there : is_at_end notes (after_activity f m) ≡ false = (either-false (is_last (current m).doing calls) (is_at_end notes (after_activity f m)) on).1 in
           subst (λ (d : Activity). Has image notes from c total (after_activity f m) (opened d m.cpu.pc calls) (since_of (asks (after_activity f m)) (since + (current m).left)) after) (sym is)
@@ -381,8 +400,14 @@ module _ {X : Type 0} (decoded : FoundIsDecoded X) (most : StatesAreMost) (some 
         turns-same : turns ≡ after
         turns-same = sym (subst (λ (o : Option ℕ). Counted notes c o turns after) (begun-none m (Moving i w) there.lives going) there.counted)
 
-        owed-after : since + owed_words (w.interruptible && (enabled_in m).interrupts) w.left (shut_next notes c (next_pc i m.cpu.pc) (unheld (enabled_in m))) + after ≤ total
-        owed-after = subst (λ t. since + owed_words (w.interruptible && (enabled_in m).interrupts) w.left (shut_next notes c (next_pc i m.cpu.pc) (unheld (enabled_in m))) + t ≤ total) turns-same owed
+        word-most : (asking : Bool) → Words-left notes c total asking w.left calls since turns (next_pc i m.cpu.pc) (unheld (enabled_in m)) → since + (current m).left ≤ total
+        word-most true owed = omega (arith, few, owed)
+        word-most false owed =
+            let sum : (since + 14 * w.left) + turns ≤ total = comes-most notes c total calls ((since + 14 * w.left) + turns) (next_pc i m.cpu.pc) (unheld (enabled_in m)) owed in
+            omega (arith, more, few, sum)
+
+        owed-after : Words-left notes c total (w.interruptible && (enabled_in m).interrupts) w.left calls since after (next_pc i m.cpu.pc) (unheld (enabled_in m))
+        owed-after = subst (λ t. Words-left notes c total (w.interruptible && (enabled_in m).interrupts) w.left calls since t (next_pc i m.cpu.pc) (unheld (enabled_in m))) turns-same owed
 
         follows : (after_activity f m).ended ≡ None → IsFollowed (MovesOn i w m.cpu.pc) i (after_activity f m)
         follows lives = lives-not (after_activity f m) lives (word-moves f i w m there.lives some_left is)
@@ -390,17 +415,17 @@ module _ {X : Type 0} (decoded : FoundIsDecoded X) (most : StatesAreMost) (some 
         same : (after_activity f m).ended ≡ None → unheld (enabled_in m) ≡ enabled_in (after_activity f m)
         same lives = equal (unheld (enabled_in m)) (enabled_in (after_activity f m)) (subst (λ (d : Activity). may_change d (enabled_in m) (enabled_in (after_activity f m)) ≡ true) is (activity-changes f m there.lives some_left there.own lives))
 
-        owed-by : (asking : Bool) → (w.interruptible && (enabled_in m).interrupts) ≡ asking → since + owed_words asking w.left (shut_next notes c (next_pc i m.cpu.pc) (unheld (enabled_in m))) + after ≤ total
-        owed-by asking e = subst (λ b. since + owed_words b w.left (shut_next notes c (next_pc i m.cpu.pc) (unheld (enabled_in m))) + after ≤ total) e owed-after
+        owed-by : (asking : Bool) → (w.interruptible && (enabled_in m).interrupts) ≡ asking → Words-left notes c total asking w.left calls since after (next_pc i m.cpu.pc) (unheld (enabled_in m))
+        owed-by asking e = subst (λ b. Words-left notes c total b w.left calls since after (next_pc i m.cpu.pc) (unheld (enabled_in m))) e owed-after
 
         -- behind the last word
-        owed-last : (asking : Bool) → (w.interruptible && (enabled_in m).interrupts) ≡ asking → (since + (current m).left) + shut_next notes c (next_pc i m.cpu.pc) (unheld (enabled_in m)) + after ≤ total
+        owed-last : (asking : Bool) → (w.interruptible && (enabled_in m).interrupts) ≡ asking → Comes notes c total calls ((since + (current m).left) + after) (next_pc i m.cpu.pc) (unheld (enabled_in m))
         owed-last true e =
             let on : (enabled_in m).interrupts ≡ true = (both w.interruptible (enabled_in m).interrupts e).1 in
-            let none : shut_next notes c (next_pc i m.cpu.pc) (unheld (enabled_in m)) ≡ 0 = rw on refl in
             let sum : since + 14 + after ≤ total = owed-by true e in
-            subst (λ x. (since + (current m).left) + x + after ≤ total) (sym none) (omega (arith, sum, few))
-        owed-last false e = last-word since (current m).left (shut_next notes c (next_pc i m.cpu.pc) (unheld (enabled_in m))) after total w.left more few (owed-by false e)
+            comes-asked notes c total calls ((since + (current m).left) + after) (next_pc i m.cpu.pc) (unheld (enabled_in m)) (rw on refl) (omega (arith, sum, few))
+        owed-last false e =
+            comes-less notes c total calls ((since + 14 * w.left) + after) ((since + (current m).left) + after) (next_pc i m.cpu.pc) (unheld (enabled_in m)) (last-word since (current m).left after w.left more few) (owed-by false e)
 
         by : (lives : (after_activity f m).ended ≡ None) → is_at_end notes (after_activity f m) ≡ false → IsOnWay image notes from c.requests (after_activity f m) calls → (h : IsFollowed (MovesOn i w m.cpu.pc) i (after_activity f m)) → MovesOn i w m.cpu.pc h.behind (after_activity f m).cpu.pc
             → Has image notes from c total (after_activity f m) calls (since_of (asks (after_activity f m)) (since + (current m).left)) after
@@ -409,7 +434,7 @@ module _ {X : Type 0} (decoded : FoundIsDecoded X) (most : StatesAreMost) (some 
             arrives image notes from c total s.each_most (after_activity f m) (next_pc i m.cpu.pc) calls (since + (current m).left) after allowed lives goes_none none.1 (sym (at-end notes (after_activity f m) lives goes_none) ∙ on) there.few
             (record {
               ahead = ahead;
-              owed = subst (λ (e : Enabled). (since + (current m).left) + shut_next notes c (next_pc i m.cpu.pc) e + after ≤ total) (same lives) (owed-last (w.interruptible && (enabled_in m).interrupts) refl);
+              owed = subst (λ (e : Enabled). Comes notes c total calls ((since + (current m).left) + after) (next_pc i m.cpu.pc) e) (same lives) (owed-last (w.interruptible && (enabled_in m).interrupts) refl);
             })
         by lives on allowed h (inr rest) =
             let goes_more : (after_activity f m).going ≡ Some (Moving i (less_one w)) = h.going ∙ ap (λ (x : After). (next_after i x).going) rest.0 in
@@ -417,8 +442,9 @@ module _ {X : Type 0} (decoded : FoundIsDecoded X) (most : StatesAreMost) (some 
             let still : (w.interruptible && (enabled_in m).interrupts) ≡ (w.interruptible && (enabled_in (after_activity f m)).interrupts) = ap (λ (e : Enabled). w.interruptible && e.interrupts) (same lives) in
             stands-moving image notes from c total (after_activity f m) i (less_one w) m.cpu.pc calls (since + (current m).left) after allowed.is.between lives goes_more free rest.1 rest.2 ahead
             (λ asking. (let sum : since + 14 + after ≤ total = owed-by true (still ∙ asking) in omega (arith, sum)))
-            (λ shut. subst (λ (e : Enabled). (since + (current m).left) + (14 * (w.left - 1) + shut_next notes c (next_pc i m.cpu.pc) e) + after ≤ total) (ap unheld (same lives))
-            (less-word since (current m).left (shut_next notes c (next_pc i m.cpu.pc) (unheld (enabled_in m))) after total w.left more few (owed-by false (still ∙ shut))))
+            (λ shut. subst (λ (e : Enabled). Comes notes c total calls (((since + (current m).left) + 14 * (w.left - 1)) + after) (next_pc i m.cpu.pc) e) (ap unheld (same lives))
+            (comes-less notes c total calls ((since + 14 * w.left) + after) (((since + (current m).left) + 14 * (w.left - 1)) + after) (next_pc i m.cpu.pc) (unheld (enabled_in m))
+            (less-word since (current m).left after w.left more few) (owed-by false (still ∙ shut))))
 
     moving-behaves : (g : Going) → m.going ≡ Some g → Account image notes from c total (Some g) m.cpu.pc calls (enabled_in m) since turns → Behaves m calls since after
     moving-behaves Idling going account = absurd account

@@ -97,6 +97,9 @@ none-of true false true = refl
 none-of false true true = refl
 none-of true true true = refl
 
+pub none-in : (e : Enabled) → is_in (record { bits = 0 }) e ≡ true → ⊥
+none-in e there = let no : true ≡ false = sym there ∙ none-of e.interrupts e.server e.held in cc no
+
 is-zero : (n : ℕ) → (n == 0) ≡ true → n ≡ 0
 is-zero n h = grind (arith)
 

@@ -32,7 +32,7 @@ pub(crate) fn is_in(set: EnabledSet, e: Enabled) -> bool
 }
 
 // Whether the second set is within the first.
-fn includes(set: EnabledSet, part: EnabledSet) -> bool
+pub(crate) fn includes(set: EnabledSet, part: EnabledSet) -> bool
     ensures { result ≡ spec.includes set part }
 {
     EACH.iter().all(|e| !is_in(part, *e) || is_in(set, *e))

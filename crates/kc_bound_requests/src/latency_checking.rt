@@ -5,14 +5,15 @@ ghost use Rattle.kc_bound_requests.specs.Closed as closed;
 ghost use Rattle.kc_bound_requests.specs.Latency as spec;
 ghost use Rattle.kc_bound_requests.specs.Latency.{ShowsShut};
 ghost use Rattle.kc_bound_requests.specs.declared.enabled.TheConstants.{EACH};
+ghost use Rattle.kc_bound.specs.declared.way.Way.TheVariants.{Call};
 
 use crate::certificate::EnabledSet;
-use crate::checking::{checked, enabled_at, is_in, is_interruptible, is_past};
+use crate::checking::{checked, enabled_at, includes, is_in, is_interruptible, is_past};
 use crate::enabled::{EACH, Enabled};
 use crate::latency_certificate::LatencyCertificate;
 use crate::latency_looking::{
-    asks_between_words, shut_after, shut_at, shut_behind, shut_next, shut_states, way_states,
-    words_at,
+    asks_between_words, returns_at, returns_next, shut_at, shut_behind, shut_next, shut_states,
+    way_states, words_at,
 };
 use crate::latency_prices::{all_turns, credit_at, price_at};
 use crate::work::{may_leave, work_at};
@@ -21,23 +22,83 @@ use kc_bound::{Notes, Way, ways};
 use kc_exec_spec::Plan;
 use std::alloc::Global;
 
-// Whether what an address has covers what a way spends and what may go by after it, where this is left there.
+// Whether what an address has, of which so much is spent, covers what follows where another is come to with this.
+fn covers_next(
+    notes: &Notes,
+    c: &LatencyCertificate,
+    at: u16,
+    e: Enabled,
+    has: u128,
+    spent: u128,
+    target: u16,
+    after: Enabled,
+) -> bool
+    requires { spent < 2 ^ 128 - 2 ^ 64 }
+    ensures { result ≡ spec.covers_next notes.now c.now at e has spent target after }
+{
+    spent + u128::from(shut_next(notes, c, target, after)) <= has
+        && includes(returns_at(c, at, e), returns_next(notes, c, target, after))
+}
+
+// The same of each that the routine may return with.
+fn covers_returns(
+    notes: &Notes,
+    c: &LatencyCertificate,
+    at: u16,
+    e: Enabled,
+    has: u128,
+    inside: u128,
+    returns: EnabledSet,
+    back: u16,
+) -> bool
+    requires { inside < 2 ^ 128 - 2 ^ 64 }
+    ensures { result ≡ list_all (λ x. closed.implies (closed.is_in returns x) (spec.covers_next notes.now c.now at e has inside back x)) EACH }
+{
+    EACH.iter().all(|x| !is_in(returns, *x) || covers_next(notes, c, at, e, has, inside, back, *x))
+}
+
+// The same of a call.
+fn covers_call(
+    notes: &Notes,
+    c: &LatencyCertificate,
+    at: u16,
+    e: Enabled,
+    has: u128,
+    spent: u128,
+    target: u16,
+    back: u16,
+    after: Enabled,
+) -> bool
+    requires { spent < 2 ^ 128 - 2 ^ 65 }
+    ensures { result ≡ spec.covers_after notes.now c.now at e has spent (Call 0 target back) after }
+{
+    let inside = spent + u128::from(shut_next(notes, c, target, after));
+    let returns = returns_next(notes, c, target, after);
+    inside <= has && covers_returns(notes, c, at, e, has, inside, returns, back)
+}
+
+// The same of a way, where it goes on with this.
 fn covers_after(
     notes: &Notes,
     c: &LatencyCertificate,
-    work: Option<Plan>,
     at: u16,
-    before: Enabled,
+    e: Enabled,
     has: u128,
     spent: u128,
     way: Way,
     after: Enabled,
 ) -> bool
-    requires { spent < 2 ^ 128 - 2 ^ 64 }
-    ensures { result ≡ closed.implies (enabled.may_leave work before after) (nat_le (spent + spec.shut_after notes.now c.now at after way) has) }
+    requires { spent < 2 ^ 128 - 2 ^ 65 }
+    ensures { result ≡ spec.covers_after notes.now c.now at e has spent way after }
 {
-    !may_leave(work, before, after)
-        || spent + u128::from(shut_after(notes, c, at, after, way)) <= has
+    match way {
+        Way::To { target, .. } => covers_next(notes, c, at, e, has, spent, target, after),
+        Way::Call { target, back, .. } => {
+            covers_call(notes, c, at, e, has, spent, target, back, after)
+        }
+        Way::Back { .. } => is_in(returns_at(c, at, e), after),
+        Way::Out { .. } => true,
+    }
 }
 
 // Whether a way pays, with what its address has, and what it spends.
@@ -51,10 +112,11 @@ fn pays_spent(
     spent: u128,
     way: Way,
 ) -> bool
-    requires { spent < 2 ^ 128 - 2 ^ 64 }
-    ensures { result ≡ list_all (λ after. closed.implies (enabled.may_leave work e after) (nat_le (spent + spec.shut_after notes.now c.now at after way) has)) EACH }
+    requires { spent < 2 ^ 128 - 2 ^ 65 }
+    ensures { result ≡ list_all (λ after. closed.implies (enabled.may_leave work e after) (spec.covers_after notes.now c.now at e has spent way after)) EACH }
 {
-    EACH.iter().all(|after| covers_after(notes, c, work, at, e, has, spent, way, *after))
+    EACH.iter().all(|after| !may_leave(work, e, *after)
+        || covers_after(notes, c, at, e, has, spent, way, *after))
 }
 
 // Whether a way pays, with the credit of what begins anew at its address, which is at most what that has.
@@ -102,10 +164,49 @@ fn covers_behind(c: &LatencyCertificate, most: u16, at: u16) -> bool
         .all(|e| shut_behind(c, at, *e) <= shut_behind(c, most, *e))
 }
 
-fn covers_next(notes: &Notes, c: &LatencyCertificate, most: u16, back: u16) -> bool
-    ensures { result ≡ spec.covers (spec.shut_behind c.now most) (spec.shut_next notes.now c.now back) }
+// Whether so many cover these, and what may go by behind the RET of a routine that returns with any of a set.
+fn covers_next_behind(
+    c: &LatencyCertificate,
+    at: u16,
+    most: u128,
+    next: u128,
+    returns: EnabledSet,
+) -> bool
+    requires { next < 2 ^ 64 }
+    ensures { result ≡ list_all (λ x. closed.implies (closed.is_in returns x) (nat_le (next + spec.shut_behind c.now at x) most)) EACH }
 {
-    EACH.iter().all(|e| shut_next(notes, c, back, *e) <= shut_behind(c, most, *e))
+    EACH.iter().all(|x| !is_in(returns, *x) || next + u128::from(shut_behind(c, at, *x)) <= most)
+}
+
+// Whether what may go by behind the RET of a routine that returns with this covers what follows where it returns to.
+fn covers_return(
+    notes: &Notes,
+    c: &LatencyCertificate,
+    at: u16,
+    target: u16,
+    back: u16,
+    e: Enabled,
+) -> bool
+    ensures { result ≡ spec.covers_return notes.now c.now at target back e }
+{
+    let most = u128::from(shut_behind(c, target, e));
+    let next = u128::from(shut_next(notes, c, back, e));
+    let returns = returns_next(notes, c, back, e);
+    next <= most && covers_next_behind(c, at, most, next, returns)
+}
+
+// The same by each that it may return with.
+fn covers_each_return(
+    notes: &Notes,
+    c: &LatencyCertificate,
+    at: u16,
+    target: u16,
+    back: u16,
+) -> bool
+    ensures { result ≡ list_all (spec.covers_return notes.now c.now at target back) EACH }
+{
+    EACH.iter()
+        .all(|e| covers_return(notes, c, at, target, back, *e))
 }
 
 fn hands_on(notes: &Notes, c: &LatencyCertificate, at: u16, way: Way) -> bool
@@ -114,7 +215,7 @@ fn hands_on(notes: &Notes, c: &LatencyCertificate, at: u16, way: Way) -> bool
     match way {
         Way::To { target, .. } => covers_behind(c, target, at),
         Way::Call { target, back, .. } => {
-            covers_next(notes, c, target, back) && covers_behind(c, back, at)
+            covers_each_return(notes, c, at, target, back) && covers_behind(c, back, at)
         }
         Way::Back { .. } => true,
         Way::Out { .. } => true,
@@ -234,11 +335,38 @@ fn all_sound(
 
 // ---- the most that goes by
 
-fn is_most(c: &LatencyCertificate, turns: u128, at: u16, e: Enabled) -> bool
+// Up to behind the RET of the routine.
+fn is_first_most(c: &LatencyCertificate, turns: u128, at: u16, e: Enabled) -> bool
     requires { turns ≤ MAX_STATES }
     ensures { result ≡ nat_le (spec.shut_at c.now at e + turns) c.now.most }
 {
     u128::from(shut_at(c, at, e)) + turns <= u128::from(c.most)
+}
+
+// And behind that, by what the routine may return with.
+fn is_most_behind(
+    c: &LatencyCertificate,
+    turns: u128,
+    at: u16,
+    inside: u128,
+    returns: EnabledSet,
+) -> bool
+    requires turns { turns ≤ MAX_STATES }
+    requires inside { inside < 2 ^ 64 }
+    ensures { result ≡ list_all (λ x. closed.implies (closed.is_in returns x) (nat_le (inside + spec.shut_behind c.now at x + turns) c.now.most)) EACH }
+{
+    EACH.iter().all(|x| !is_in(returns, *x)
+        || inside + u128::from(shut_behind(c, at, *x)) + turns <= u128::from(c.most))
+}
+
+// Both.
+fn is_most(c: &LatencyCertificate, turns: u128, at: u16, e: Enabled) -> bool
+    requires { turns ≤ MAX_STATES }
+    ensures { result ≡ (nat_le (spec.shut_at c.now at e + turns) c.now.most && list_all (λ x. closed.implies (closed.is_in (spec.returns_at c.now at e) x) (nat_le (spec.shut_at c.now at e + spec.shut_behind c.now at x + turns) c.now.most)) EACH) }
+{
+    let inside = u128::from(shut_at(c, at, e));
+    let returns = returns_at(c, at, e);
+    is_first_most(c, turns, at, e) && is_most_behind(c, turns, at, inside, returns)
 }
 
 fn asks_at(work: Option<Plan>, e: Enabled) -> bool
@@ -256,18 +384,18 @@ fn has_word(c: &LatencyCertificate, turns: u128, work: Option<Plan>, e: Enabled)
 }
 
 // Whether no more goes by from the first address on.
-fn is_first_most(c: &LatencyCertificate, turns: u128, from: u16, first: EnabledSet) -> bool
+fn are_first_most(c: &LatencyCertificate, turns: u128, from: u16, first: EnabledSet) -> bool
     requires { turns ≤ MAX_STATES }
     ensures { result ≡ list_all (λ e. closed.implies (closed.is_in first e) (nat_le (spec.shut_at c.now from e + turns) c.now.most)) EACH }
 {
     EACH.iter()
-        .all(|e| !is_in(first, *e) || is_most(c, turns, from, *e))
+        .all(|e| !is_in(first, *e) || is_first_most(c, turns, from, *e))
 }
 
 // Whether no more goes by from where interrupts are asked for at an address.
 fn is_asking_most(c: &LatencyCertificate, turns: u128, work: Option<Plan>, at: u16) -> bool
     requires { turns ≤ MAX_STATES }
-    ensures { result ≡ list_all (λ e. closed.implies (closed.is_in (closed.enabled_at c.now.requests at).before e && spec.asks_at work e) (nat_le (spec.shut_at c.now at e + turns) c.now.most && closed.implies (spec.asks_between_words work e) (nat_le (14 + turns) c.now.most))) EACH }
+    ensures { result ≡ list_all (λ e. closed.implies (closed.is_in (closed.enabled_at c.now.requests at).before e && spec.asks_at work e) ((nat_le (spec.shut_at c.now at e + turns) c.now.most && list_all (λ x. closed.implies (closed.is_in (spec.returns_at c.now at e) x) (nat_le (spec.shut_at c.now at e + spec.shut_behind c.now at x + turns) c.now.most)) EACH) && closed.implies (spec.asks_between_words work e) (nat_le (14 + turns) c.now.most))) EACH }
 {
     let before = enabled_at(&c.requests, at).before;
     EACH.iter().all(|e| !(is_in(before, *e) && asks_at(work, *e))
@@ -330,7 +458,7 @@ pub fn checked_latency(
     if turns > u128::from(MAX_STATES) || c.most > MAX_STATES {
         return Ok(None);
     }
-    if !is_first_most(c, turns, from, first) || !all_most(image, notes, from, c, turns) {
+    if !are_first_most(c, turns, from, first) || !all_most(image, notes, from, c, turns) {
         return Ok(None);
     }
     Ok(Some(c.most))

@@ -1,12 +1,12 @@
 // A certificate is sought by raising what may go by at each address until each way pays. What it is worth, `checked_latency` says.
 use crate::certificate::{EnabledSet, RequestCertificate};
-use crate::checking::{is_in, is_interruptible, number_of};
+use crate::checking::{NO_SET, includes, is_in, is_interruptible, number_of};
 use crate::enabled::{EACH, Enabled};
-use crate::finding::find;
+use crate::finding::{find, place_of};
 use crate::latency_certificate::LatencyCertificate;
 use crate::latency_looking::{
-    asks_between_words, shut_after, shut_at, shut_behind, shut_next, shut_states, way_states,
-    words_at,
+    asks_between_words, returns_at, returns_next, shut_at, shut_behind, shut_next, shut_states,
+    way_states, words_at,
 };
 use crate::latency_prices::{all_turns, credit_at, price_at};
 use crate::latency_steps::{Step, needed_prices, steps_of};
@@ -45,16 +45,49 @@ fn zeros(alloc: Global, count: usize) -> Result<Vec<u64>, NoMemory> {
     Ok(numbers)
 }
 
+// So many sets, each empty.
+fn no_sets(alloc: Global, count: usize) -> Result<Vec<EnabledSet>, NoMemory> {
+    let mut sets = Vec::new(alloc);
+    for _ in 0..count {
+        sets.push(NO_SET)?;
+    }
+    Ok(sets)
+}
+
+// The place of the number of an address, among eight for each.
+fn place_with(at: u16, e: Enabled) -> Option<usize> {
+    let place = place_of(at)?;
+    Some(8 * place + usize::from(number_of(e)))
+}
+
+fn only(e: Enabled) -> EnabledSet {
+    EnabledSet {
+        bits: 1 << number_of(e),
+    }
+}
+
 // Raises the number of an address to a value; whether it was less.
 fn raise(states: &mut Vec<u64>, at: u16, e: Enabled, value: u64) -> bool {
-    if at < IMAGE_START || at >= ROM_END {
+    let Some(place) = place_with(at, e) else {
         return false;
-    }
-    let place = 8 * usize::from(at - IMAGE_START) + usize::from(number_of(e));
+    };
     if place >= states.len() || states[place] >= value {
         return false;
     }
     states[place] = value;
+    true
+}
+
+// Adds these to the set of an address; whether they were not all there.
+fn add(sets: &mut Vec<EnabledSet>, at: u16, e: Enabled, more: EnabledSet) -> bool {
+    let Some(place) = place_with(at, e) else {
+        return false;
+    };
+    if place >= sets.len() || includes(sets[place], more) {
+        return false;
+    }
+    let bits = sets[place].bits | more.bits;
+    sets[place] = EnabledSet { bits };
     true
 }
 
@@ -81,6 +114,72 @@ fn costs_of(
     Ok(costs)
 }
 
+// An address, of which so much is spent with this before its instruction.
+#[derive(Clone, Copy, Drop)]
+struct Spent {
+    at: u16,
+    e: Enabled,
+    price: u64,
+    states: u64,
+}
+
+impl Spent {
+    fn with(self, states: u64) -> Spent {
+        Spent {
+            at: self.at,
+            e: self.e,
+            price: self.price,
+            states: self.states.saturating_add(states),
+        }
+    }
+
+    fn raise(self, c: &mut LatencyCertificate) -> bool {
+        raise(
+            &mut c.before,
+            self.at,
+            self.e,
+            self.states.saturating_sub(self.price),
+        )
+    }
+
+    // What is asked where another address is come to with this.
+    fn go_on(self, notes: &Notes, c: &mut LatencyCertificate, target: u16, after: Enabled) -> bool {
+        let states = shut_next(notes, c, target, after);
+        let is_more = self.with(states).raise(c);
+        let returns = returns_next(notes, c, target, after);
+        add(&mut c.returns, self.at, self.e, returns) || is_more
+    }
+
+    fn call(
+        self,
+        notes: &Notes,
+        c: &mut LatencyCertificate,
+        target: u16,
+        back: u16,
+        after: Enabled,
+    ) -> bool {
+        let inside = self.with(shut_next(notes, c, target, after));
+        let mut is_more = inside.raise(c);
+        let returns = returns_next(notes, c, target, after);
+        for e in EACH.iter() {
+            if is_in(returns, *e) {
+                let more = inside.go_on(notes, c, back, *e);
+                is_more = is_more || more;
+            }
+        }
+        is_more
+    }
+
+    fn follow(self, notes: &Notes, c: &mut LatencyCertificate, way: Way, after: Enabled) -> bool {
+        match way {
+            Way::To { target, .. } => self.go_on(notes, c, target, after),
+            Way::Call { target, back, .. } => self.call(notes, c, target, back, after),
+            Way::Back { .. } => add(&mut c.returns, self.at, self.e, only(after)),
+            Way::Out { .. } => false,
+        }
+    }
+}
+
 // What one way asks of its address, with this before it.
 fn follow(
     notes: &Notes,
@@ -91,16 +190,37 @@ fn follow(
     way: Way,
 ) -> bool {
     let states = shut_states(step.work, words_at(notes, step.at), e, way_states(way));
-    let spent = u64::from(states).saturating_add(cost.credit);
-    let mut is_more = raise(&mut c.before, step.at, e, spent.saturating_sub(cost.price));
+    let spent = Spent {
+        at: step.at,
+        e,
+        price: cost.price,
+        states: u64::from(states).saturating_add(cost.credit),
+    };
+    let mut is_more = spent.raise(c);
     for after in EACH.iter() {
         if may_leave(step.work, e, *after) {
-            let all = spent.saturating_add(shut_after(notes, c, step.at, *after, way));
-            let more = raise(&mut c.before, step.at, e, all.saturating_sub(cost.price));
+            let more = spent.follow(notes, c, way, *after);
             is_more = is_more || more;
         }
     }
     is_more
+}
+
+// What goes by behind the RET of a routine that is called and returns with this.
+fn behind_call(notes: &Notes, c: &LatencyCertificate, at: u16, back: u16, e: Enabled) -> u64 {
+    let next = shut_next(notes, c, back, e);
+    next.saturating_add(most_behind(c, at, returns_next(notes, c, back, e)))
+}
+
+// The most behind the RET of a routine that returns with one of these.
+fn most_behind(c: &LatencyCertificate, at: u16, returns: EnabledSet) -> u64 {
+    let mut most = 0;
+    for e in EACH.iter() {
+        if is_in(returns, *e) {
+            most = shut_behind(c, at, *e).max(most);
+        }
+    }
+    most
 }
 
 // What it asks of where it leads.
@@ -111,7 +231,7 @@ fn hand_on(notes: &Notes, c: &mut LatencyCertificate, at: u16, way: Way) -> bool
         let more = match way {
             Way::To { target, .. } => raise(&mut c.behind, target, *e, here),
             Way::Call { target, back, .. } => {
-                let next = shut_next(notes, c, back, *e);
+                let next = behind_call(notes, c, at, back, *e);
                 let inside = raise(&mut c.behind, target, *e, next);
                 let behind = raise(&mut c.behind, back, *e, here);
                 inside || behind
@@ -173,7 +293,8 @@ fn longest(c: &LatencyCertificate, steps: &[Option<Step>], from: u16, first: Ena
         if let Some(step) = step {
             for e in EACH.iter() {
                 if lets_most(step, *e) {
-                    most = shut_at(c, step.at, *e).max(most);
+                    let behind = most_behind(c, step.at, returns_at(c, step.at, *e));
+                    most = shut_at(c, step.at, *e).saturating_add(behind).max(most);
                     if asks_between_words(step.work, *e) {
                         most = most.max(14);
                     }
@@ -198,6 +319,7 @@ fn settle(
     let mut certificate = LatencyCertificate {
         requests,
         before: zeros(alloc, count)?,
+        returns: no_sets(alloc, count)?,
         behind: zeros(alloc, count)?,
         prices,
         most: 0,

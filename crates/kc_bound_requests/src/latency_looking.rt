@@ -4,7 +4,8 @@ ghost use Rattle.kc_bound.specs.Notes as notes_say;
 ghost use Rattle.kc_bound_requests.specs.Asking as asking;
 ghost use Rattle.kc_bound_requests.specs.Latency as spec;
 
-use crate::checking::{is_interruptible, number_of};
+use crate::certificate::EnabledSet;
+use crate::checking::{NO_SET, is_interruptible, number_of};
 use crate::enabled::Enabled;
 use crate::latency_certificate::LatencyCertificate;
 use kc_base::{IMAGE_START, ROM_END};
@@ -41,10 +42,29 @@ fn states_at(states: &[u64], at: u16, e: Enabled) -> u64
     }
 }
 
+fn set_at(sets: &[EnabledSet], at: u16, e: Enabled) -> EnabledSet
+    ensures { result ≡ spec.set_at sets.now at e }
+{
+    if at < IMAGE_START || at >= ROM_END {
+        return NO_SET;
+    }
+    let place = 8 * usize::from(at - IMAGE_START) + usize::from(number_of(e));
+    match sets.get(place) {
+        Some(set) => *set,
+        None => NO_SET,
+    }
+}
+
 pub(crate) fn shut_at(c: &LatencyCertificate, at: u16, e: Enabled) -> u64
     ensures { result ≡ spec.shut_at c.now at e }
 {
     states_at(c.before.as_slice(), at, e)
+}
+
+pub(crate) fn returns_at(c: &LatencyCertificate, at: u16, e: Enabled) -> EnabledSet
+    ensures { result ≡ spec.returns_at c.now at e }
+{
+    set_at(c.returns.as_slice(), at, e)
 }
 
 pub(crate) fn shut_behind(c: &LatencyCertificate, at: u16, e: Enabled) -> u64
@@ -66,6 +86,16 @@ pub(crate) fn shut_next(notes: &Notes, c: &LatencyCertificate, at: u16, e: Enabl
         0
     } else {
         shut_at(c, at, e)
+    }
+}
+
+pub(crate) fn returns_next(notes: &Notes, c: &LatencyCertificate, at: u16, e: Enabled) -> EnabledSet
+    ensures { result ≡ spec.returns_next notes.now c.now at e }
+{
+    if lets_interrupts_in(e) || is_end(notes, at) {
+        NO_SET
+    } else {
+        returns_at(c, at, e)
     }
 }
 
@@ -95,23 +125,5 @@ pub(crate) fn way_states(way: Way) -> u32
         Way::Call { states, .. } => states,
         Way::Back { states } => states,
         Way::Out { states } => states,
-    }
-}
-
-// What may go by after a way on from an address, with this allowed there.
-pub(crate) fn shut_after(
-    notes: &Notes,
-    c: &LatencyCertificate,
-    at: u16,
-    e: Enabled,
-    way: Way,
-) -> u64
-    ensures { result ≡ spec.shut_after notes.now c.now at e way }
-{
-    match way {
-        Way::To { target, .. } => shut_next(notes, c, target, e),
-        Way::Call { target, .. } => shut_next(notes, c, target, e),
-        Way::Back { .. } => shut_behind(c, at, e),
-        Way::Out { .. } => 0,
     }
 }

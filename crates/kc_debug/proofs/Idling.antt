@@ -1,9 +1,9 @@
 -- A machine that idles: which activities begin, and which of them are kept.
-use Rattle.std.proofs.Common.{◌≡◌, ℕ, zero, suc, ◌+◌, ◌-◌, ◌<◌, ◌≤◌, ◌⊎◌, inl, inr, if◌then◌else◌, is_none, Bool, true, false, ◌==◌, ◌&&◌, List, [], ◌∷◌, ◌++◌, length, drop, refl, sym, ap, subst, ◌∙◌, append_assoc, append-nil, arith, length-append}
+use Rattle.std.proofs.Common.{◌≡◌, ℕ, zero, suc, ◌+◌, ◌-◌, ◌<◌, ◌≤◌, ◌⊎◌, inl, inr, if◌then◌else◌, is_none, IsTrue, not, ◌==◌, ◌&&◌, Bool, true, false, None, List, [], ◌∷◌, ◌++◌, length, drop, refl, sym, ap, subst, ◌∙◌, append_assoc, append-nil, arith, length-append}
 use Rattle.std.specs.Prelude.{nat_le, nat_lt, max}
-use Rattle.std.specs.List.{list_any}
 use Rattle.std.proofs.lemmas.Bool.Decides.{nat_tests}
 use Rattle.std.proofs.Math.Seq.{drop-append-add}
+use Rattle.std.specs.List.{list_any}
 use Rattle.circular_buffer.specs.Buffer.{Buffer, buffer, keep_last}
 use Rattle.kc_exec_spec.specs.declared.cpu.Cpu.{Cpu}
 use Rattle.kc_extra.specs.Further.{Further}
@@ -17,7 +17,7 @@ use Rattle.kc_machine.specs.Failing.{FailsIn}
 use Rattle.kc_machine.specs.Stepping.{IdlesFor}
 use Rattle.kc_debug.specs.declared.activities.Begun.{Begun}
 use Rattle.kc_debug.specs.Activities.{begins_unless, beginning, begun_for}
-use Rattle.kc_debug.specs.Stops.{activity_states, states_at_once, states_of_activities}
+use Rattle.kc_debug.specs.Stops.{Stopping, activity_states, at_breaks, is_at, noted_for, states_at_once, states_of_activities, stops_at, stops_behind}
 use Rattle.kc_debug.specs.Passing.{IsKept, IsClear, Stood}
 use Rattle.kc_debug.specs.Stands.{FailsWithin}
 use Rattle.kc_debug.proofs.Last.{last-append}
@@ -54,50 +54,54 @@ last-behind n xs ys enough =
     let sum : length (xs ++ ys) - n ≡ length xs + (length ys - n) = omega (arith, longer) in
     ap (λ i. drop i (xs ++ ys)) sum ∙ drop-append-add xs ys (length ys - n)
 
--- of so many idle states, the last 33 alone need be noted
-pub idle-last : (r : List Begun) (from pc n first : ℕ) → from ≤ first → first ≤ from + n → (first ≡ from) ⊎ (first + 33 ≤ from + n) →
-    keep_last 33 (r ++ idle_states first pc (from + n - first)) ≡ keep_last 33 (r ++ idle_states from pc n)
-idle-last r from pc n first low high (inl all) =
+-- of so many idle states, the last that are kept alone need be noted
+pub idle-last : (cap : ℕ) (r : List Begun) (from pc n first : ℕ) → from ≤ first → first ≤ from + n → (first ≡ from) ⊎ (first + cap ≤ from + n) →
+    keep_last cap (r ++ idle_states first pc (from + n - first)) ≡ keep_last cap (r ++ idle_states from pc n)
+idle-last cap r from pc n first low high (inl all) =
     let e : from + n - first ≡ n = omega (arith, all) in
-    λ i. keep_last 33 (r ++ idle_states (all i) pc (e i))
-idle-last r from pc n first low high (inr enough) =
+    λ i. keep_last cap (r ++ idle_states (all i) pc (e i))
+idle-last cap r from pc n first low high (inr enough) =
     let k : ℕ = from + n - first in
     let j : ℕ = first - from in
     let sum : n ≡ j + k = omega arith in
     let start : from + j ≡ first = omega arith in
     let whole : idle_states from pc n ≡ idle_states from pc j ++ idle_states first pc k =
     ap (idle_states from pc) sum ∙ idle-split from pc j k ∙ ap (λ i. idle_states from pc j ++ idle_states i pc k) start in
-    let length : 33 ≤ length (idle_states first pc k) = omega (arith, idle-length first pc k) in
-    last-behind 33 r (idle_states first pc k) length
-    ∙ sym (last-behind 33 (r ++ idle_states from pc j) (idle_states first pc k) length)
-    ∙ ap (keep_last 33) (append_assoc r (idle_states from pc j) (idle_states first pc k))
-    ∙ ap (λ xs. keep_last 33 (r ++ xs)) (sym whole)
+    let length : cap ≤ length (idle_states first pc k) = omega (arith, idle-length first pc k) in
+    last-behind cap r (idle_states first pc k) length
+    ∙ sym (last-behind cap (r ++ idle_states from pc j) (idle_states first pc k) length)
+    ∙ ap (keep_last cap) (append_assoc r (idle_states from pc j) (idle_states first pc k))
+    ∙ ap (λ xs. keep_last cap (r ++ xs)) (sym whole)
 
 -- where the notes begin
-pub first-noted : (now end first : ℕ) → first ≡ max now (end - 33) → (first ≡ now) ⊎ (first + 33 ≤ end)
-first-noted now end first is = by (nat_le (end - 33) now) refl
+pub first-noted : (cap now end first : ℕ) → first ≡ max now (end - cap) → (first ≡ now) ⊎ (first + cap ≤ end)
+first-noted cap now end first is = by (nat_le (end - cap) now) refl
   where
-    by : (b : Bool) → nat_le (end - 33) now ≡ b → (first ≡ now) ⊎ (first + 33 ≤ end)
+    by : (b : Bool) → nat_le (end - cap) now ≡ b → (first ≡ now) ⊎ (first + cap ≤ end)
     by true e = inl (grind (arith, nat_tests, is, e))
     by false e = inr (grind (arith, nat_tests, is, e))
 
 -- no idle state is noted yet
-pub idle-first : (r : Buffer Begun) (from pc : ℕ) → IsKept r → r ≡ buffer (keep_last 33 (r.items ++ idle_states from pc 0)) 33
-idle-first r from pc kept = kept ∙ ap (λ xs. buffer (keep_last 33 xs) 33) (sym (append-nil r.items))
+pub idle-first : (r : Buffer Begun) (from pc : ℕ) → IsKept r → r ≡ buffer (keep_last r.capacity (r.items ++ idle_states from pc 0)) r.capacity
+idle-first r from pc kept = ap (λ xs. buffer xs r.capacity) (kept ∙ ap (keep_last r.capacity) (sym (append-nil r.items)))
 
 -- one idle state more is noted
-pub idle-noted : (r : List Begun) (p q : Buffer Begun) (from pc at : ℕ) → from ≤ at → p ≡ buffer (keep_last 33 (r ++ idle_states from pc (at - from))) 33 →
-    q ≡ buffer (keep_last p.capacity (p.items ++ record { at = at; pc = pc } ∷ [])) p.capacity → q ≡ buffer (keep_last 33 (r ++ idle_states from pc (at + 1 - from))) 33
-idle-noted r p q from pc at behind before noted =
+pub idle-noted : (cap : ℕ) (r : List Begun) (p q : Buffer Begun) (from pc at : ℕ) → from ≤ at → p ≡ buffer (keep_last cap (r ++ idle_states from pc (at - from))) cap →
+    q ≡ buffer (keep_last p.capacity (p.items ++ record { at = at; pc = pc } ∷ [])) p.capacity → q ≡ buffer (keep_last cap (r ++ idle_states from pc (at + 1 - from))) cap
+idle-noted cap r p q from pc at behind before noted =
     let n : ℕ = at - from in
     let here : at ≡ from + n = omega arith in
     let more : at + 1 - from ≡ suc n = omega arith in
     let b : List Begun = record { at = at; pc = pc } ∷ [] in
     noted
     ∙ ap (λ (x : Buffer Begun). buffer (keep_last x.capacity (x.items ++ b)) x.capacity) before
-    ∙ ap (λ xs. buffer xs 33) (last-append 33 (r ++ idle_states from pc n) b ∙ ap (keep_last 33) (append_assoc r (idle_states from pc n) b))
-    ∙ ap (λ i. buffer (keep_last 33 (r ++ (idle_states from pc n ++ record { at = i; pc = pc } ∷ []))) 33) here
-    ∙ ap (λ i. buffer (keep_last 33 (r ++ idle_states from pc i)) 33) (sym more)
+    ∙ ap (λ xs. buffer xs cap) (last-append cap (r ++ idle_states from pc n) b ∙ ap (keep_last cap) (append_assoc r (idle_states from pc n) b))
+    ∙ ap (λ i. buffer (keep_last cap (r ++ (idle_states from pc n ++ record { at = i; pc = pc } ∷ []))) cap) here
+    ∙ ap (λ i. buffer (keep_last cap (r ++ idle_states from pc i)) cap) (sym more)
+
+pub without : (b : Bool) → IsTrue (not b) → b ≡ false
+without false h = refl
+without true h = absurd cc
 
 module _ {X : Type 0} (f : Further X) where
   pub record IsThere (k : ℕ) (m : Machine X) : Type 0 where
@@ -134,31 +138,54 @@ module _ {X : Type 0} (f : Further X) where
       ∙ ap (λ xs. begun_for f k m ++ xs) (begun-one f mid here.0.lives ∙ one)
       ∙ ap (λ xs. xs ++ record { at = m.time + k; pc = m.cpu.pc } ∷ []) (idles-begun n k m idles (omega arith))
 
+  -- a machine that idles is between two activities
+  idles-between : (n i : ℕ) (m : Machine X) → IdlesFor f n m → i < n → m.under_way ≡ None
+  idles-between n i m idles less = ap (λ (x : Machine X). x.under_way) (ap (λ (st : Stepped X). st.machine) (sym (run-none f m))) ∙ (idles 0 (omega (arith, less))).0.between
+
+  -- where no idle state stops a run, they pass at once
+  pub idles-clear : (s : Stopping X) (n : ℕ) (m : Machine X) → IdlesFor f n m → ((i : ℕ) → 0 < i → i < n → stops_behind f s false i m ≡ false) → IsClear f s n m
+  idles-clear s n m idles none noted calm i some less =
+      ap (λ b. stops_behind f s b i m) (calm (idles-between n i m idles less)) ∙ none i some less
+
+  -- ---- breakpoints alone
+
+  -- nothing is noted
+  no-notes : (breaks : List ℕ) (i : ℕ) (m : Machine X) → noted_for f (at_breaks breaks) false i m ≡ false
+  unfolding noted_for
+  no-notes breaks zero m = refl
+  no-notes breaks (suc i) m = no-notes breaks i (run_for f 1 m).machine
+
+  pub stops-at-breaks : (breaks : List ℕ) (i : ℕ) (m x : Machine X) → x ≡ (run_for f i m).machine → (is_none x.under_way && is_at breaks x) ≡ stops_behind f (at_breaks breaks) false i m
+  stops-at-breaks breaks i m x is =
+      ap (λ (y : Machine X). is_none y.under_way && is_at breaks y) is
+      ∙ ap (λ b. stops_at (at_breaks breaks) b (run_for f i m).machine) (sym (no-notes breaks i m))
+
   -- a machine that idles stays where it is
-  pub idles-clear : (breaks : List ℕ) (n : ℕ) (m : Machine X) → IdlesFor f n m → list_any (λ addr. addr == m.cpu.pc) breaks ≡ false → IsClear f breaks n m
-  idles-clear breaks n m idles none i some less =
-      let there = idles-there n i m idles (omega arith) in
+  pub idles-at-breaks : (breaks : List ℕ) (n i : ℕ) (m : Machine X) → is_at breaks m ≡ false → IdlesFor f n m → 0 < i → i < n → stops_behind f (at_breaks breaks) false i m ≡ false
+  idles-at-breaks breaks n i m none idles some less =
+      let there = idles-there n i m idles (omega (arith, less)) in
       let here = idles i less in
-      ap (λ u. is_none u && list_any (λ addr. addr == (run_for f i m).machine.cpu.pc) breaks) here.0.between
+      let x : Machine X = (run_for f i m).machine in
+      sym (stops-at-breaks breaks i m x refl)
+      ∙ ap (λ u. is_none u && is_at breaks x) here.0.between
       ∙ ap (λ (c : Cpu). list_any (λ addr. addr == c.pc) breaks) there.cpu
       ∙ none
 
   -- what is noted of idle states is what begins in them
-  pub idles-noted : (r q : Buffer Begun) (end first : ℕ) (m : Machine X) → IsKept r → m.time ≤ end → IdlesFor f (end - m.time) m → m.time ≤ first → first ≤ end →
-      (first ≡ m.time) ⊎ (first + 33 ≤ end) → q ≡ buffer (keep_last 33 (r.items ++ idle_states first m.cpu.pc (end - first))) 33 →
+  pub idles-noted : (r q : Buffer Begun) (end first : ℕ) (m : Machine X) → m.time ≤ end → IdlesFor f (end - m.time) m → m.time ≤ first → first ≤ end →
+      (first ≡ m.time) ⊎ (first + r.capacity ≤ end) → q ≡ buffer (keep_last r.capacity (r.items ++ idle_states first m.cpu.pc (end - first))) r.capacity →
       q ≡ buffer (keep_last r.capacity (r.items ++ begun_for f (end - m.time) m)) r.capacity
-  idles-noted r q end first m kept ahead idles low high which noted =
+  idles-noted r q end first m ahead idles low high which noted =
       let n : ℕ = end - m.time in
+      let cap : ℕ = r.capacity in
       let sum : m.time + n ≡ end = omega arith in
-      let cap : 33 ≡ r.capacity = sym (ap (λ (b : Buffer Begun). b.capacity) kept) in
-      let choice : (first ≡ m.time) ⊎ (first + 33 ≤ m.time + n) = by_which which in
+      let choice : (first ≡ m.time) ⊎ (first + cap ≤ m.time + n) = by_which which in
       noted
-      ∙ ap (λ i. buffer (keep_last 33 (r.items ++ idle_states first m.cpu.pc (i - first))) 33) (sym sum)
-      ∙ ap (λ xs. buffer xs 33) (idle-last r.items m.time m.cpu.pc n first low (omega arith) choice)
-      ∙ ap (λ xs. buffer (keep_last 33 (r.items ++ xs)) 33) (sym (idles-begun n n m idles (omega arith)))
-      ∙ (λ i. buffer (keep_last (cap i) (r.items ++ begun_for f n m)) (cap i))
+      ∙ ap (λ i. buffer (keep_last cap (r.items ++ idle_states first m.cpu.pc (i - first))) cap) (sym sum)
+      ∙ ap (λ xs. buffer xs cap) (idle-last cap r.items m.time m.cpu.pc n first low (omega arith) choice)
+      ∙ ap (λ xs. buffer (keep_last cap (r.items ++ xs)) cap) (sym (idles-begun n n m idles (omega arith)))
     where
-      by_which : (first ≡ m.time) ⊎ (first + 33 ≤ end) → (first ≡ m.time) ⊎ (first + 33 ≤ m.time + (end - m.time))
+      by_which : (first ≡ m.time) ⊎ (first + r.capacity ≤ end) → (first ≡ m.time) ⊎ (first + r.capacity ≤ m.time + (end - m.time))
       by_which (inl same) = inl same
       by_which (inr enough) = inr (omega arith)
 

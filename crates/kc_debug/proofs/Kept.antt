@@ -34,7 +34,7 @@ use Rattle.kc_debug.proofs.Last.{last-append, last-same, last-finished}
 -- ---- the last of lists
 
 -- the last of two lists are those of the first and the last of the second
-last-tail : {A : Type 0} (n : ℕ) (xs ys : List A) → keep_last n (xs ++ keep_last n ys) ≡ keep_last n (xs ++ ys)
+pub last-tail : {A : Type 0} (n : ℕ) (xs ys : List A) → keep_last n (xs ++ keep_last n ys) ≡ keep_last n (xs ++ ys)
 last-tail n xs ys = elim (cases_lt n (length ys)) [
   | inl more ↦
       let k : ℕ = length ys - n in
@@ -155,7 +155,7 @@ module _ {A : Type 0} (P : A → Type 0) where
 pub any-mono : {A : Type 0} (P Q : A → Type 0) (xs : List A) → ((x : A) → P x → Q x) → Any P xs → Any Q xs
 any-mono P Q xs f h = (h.0, h.1, h.2, h.3, f h.1 h.4)
 
-any-map : {A B : Type 0} (P : B → Type 0) (h : A → B) (xs : List A) → Any (λ x. P (h x)) xs → Any P (map h xs)
+pub any-map : {A B : Type 0} (P : B → Type 0) (h : A → B) (xs : List A) → Any (λ x. P (h x)) xs → Any P (map h xs)
 any-map P h xs k =
     let long : length (map h xs) ≡ length xs = length-map xs h in
     (k.0, h k.1, omega (arith, k.2, long), get_or-map h xs k.0 k.1 (h k.1) k.2 ∙ ap h k.3, k.4)

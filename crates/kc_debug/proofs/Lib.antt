@@ -2,6 +2,7 @@ pub mod Last
 pub mod Begins
 pub mod Idling
 pub mod Passing
+pub mod Onward
 pub mod Scripts
 pub mod Shown
 pub mod Going

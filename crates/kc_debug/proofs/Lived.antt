@@ -5,6 +5,7 @@ use Rattle.std.proofs.lemmas.Bool.Decides.{nat_tests}
 use Rattle.circular_buffer.specs.Buffer.{Buffer, buffer, keep_last}
 use Rattle.kc_extra.specs.Further.{Further}
 use Rattle.kc_trace.specs.declared.record.Record.{Record}
+use Rattle.kc_trace.specs.Counting.{counted_all}
 use Rattle.kc_trace.specs.Out.{Out, Puts}
 use Rattle.kc_trace.specs.declared.trace.WriteFault.{WriteFault}
 use Rattle.kc_trace.specs.Text.{text_of}
@@ -23,9 +24,9 @@ use Rattle.kc_cycles.proofs.Going.{Feeds, InSpan, IsSpanEnd, span-first, span-ru
 use Rattle.kc_debug.specs.declared.activities.Begun.{Begun}
 use Rattle.kc_debug.specs.Activities.{begun_for}
 use Rattle.kc_debug.specs.Debugging.{is_before, IsInTime, IsAhead, how_of, IsPart, IsClearFor, PassesInLife, HasLived}
-use Rattle.kc_debug.specs.Passing.{IsKept, IsClear, Passed, Reported, Stood}
-use Rattle.kc_debug.specs.Stops.{is_at_break, states_of_activities, states_to_break, states_of_run}
-use Rattle.kc_debug.proofs.Begins.{states-none, states-more, break-none, break-any, break-past, break-there}
+use Rattle.kc_debug.specs.Passing.{AreAtOnce, IsKept, IsClear, Passed, Reported, Stood}
+use Rattle.kc_debug.specs.Stops.{Stopping, noted_for, states_of_activities, states_to_stop, states_until, stops_behind}
+use Rattle.kc_debug.proofs.Begins.{states-none, states-more, noted-none, noted-add, behind-add, calm-there, stop-any, stop-none, stop-past, stop-some, stop-there}
 use Rattle.kc_debug.proofs.Passing.{Along, along-first, along-lines, along-next, ran, activity-reported, activity-stood}
 
 -- ---- tests of the deadline
@@ -236,14 +237,14 @@ module _ {X : Type 0} (f : Further X) (deadline : X → Option ℕ) where
       ∙ sym (ap (λ (s : Stepped X). goes_on s (life_for f deadline (total - 0))) (run-none f m) ∙ nothing-before f deadline m (life_for f deadline (total - 0)))
 
   -- so many states of a life have passed
-  pub record Living (total : ℕ) (m0 : Machine X) (o0 : Out) (r0 : List Begun) (states : ℕ) (m : Machine X) (o : Out) (r : Buffer Begun) : Type 0 where
+  pub record Living (total : ℕ) (m0 : Machine X) (o0 : Out) (r0 : Buffer Begun) (states : ℕ) (m : Machine X) (o : Out) (r : Buffer Begun) : Type 0 where
     pub along : Along f m0 o0 r0 states m o r
     pub left : IsLeft f deadline total m0 states states
     pub time : m.time ≡ m0.time + states
     pub in_time : IsInTime (deadline m.board.units.further) m.time
     pub unbroken : o.failed ≡ false
 
-  pub living-first : (total : ℕ) (m : Machine X) (o : Out) (r : Buffer Begun) → IsKept r → IsInTime (deadline m.board.units.further) m.time → o.failed ≡ false → Living total m o r.items 0 m o r
+  pub living-first : (total : ℕ) (m : Machine X) (o : Out) (r : Buffer Begun) → IsKept r → IsInTime (deadline m.board.units.further) m.time → o.failed ≡ false → Living total m o r 0 m o r
   living-first total m o r kept in_time unbroken = record {
     along = along-first f m o r kept;
     left = left-first total m;
@@ -254,9 +255,12 @@ module _ {X : Type 0} (f : Further X) (deadline : X → Option ℕ) where
 
   -- ---- its end
 
-  module _ (total : ℕ) (m0 : Machine X) (o0 : Out) (r0 : Buffer Begun) (i : ℕ) (m : Machine X) (o : Out) (r : Buffer Begun) (l : Living total m0 o0 r0.items i m o r) where
+  module _ (total : ℕ) (m0 : Machine X) (o0 : Out) (r0 : Buffer Begun) (i : ℕ) (m : Machine X) (o : Out) (r : Buffer Begun) (l : Living total m0 o0 r0 i m o r) where
     pub living-lines : (late : Bool) → Ends f deadline total m0 i m (how_of late m) late → Puts o0 (text_of (life_for f deadline total m0).ran.records) o
     living-lines late ends = ends-lines f deadline total m0 i m (how_of late m) late o0 o ends l.along.lines.text
+
+    pub living-counts : (late : Bool) → Ends f deadline total m0 i m (how_of late m) late → o.counts ≡ counted_all (life_for f deadline total m0).ran.records o0.counts
+    living-counts late ends = l.along.lines.counts l.unbroken ∙ ap (λ items. counted_all items o0.counts) ends.records
 
     -- it has ended, or its states are spent
     pub living-over : ((how : End) × (m.ended ≡ Some how)) ⊎ (total ≤ i) → Ends f deadline total m0 i m (how_of false m) false
@@ -274,7 +278,7 @@ module _ {X : Type 0} (f : Further X) (deadline : X → Option ℕ) where
           by_watchdog = ends.by_watchdog;
           how = ends.how;
           machine = ends.machine;
-          begun = l.along.begun ∙ ap (λ k. buffer (keep_last 33 (r0.items ++ begun_for f k m0)) 33) states;
+          begun = l.along.begun ∙ ap (λ k. buffer (keep_last r0.capacity (r0.items ++ begun_for f k m0)) r0.capacity) states;
           in_time = l.in_time;
           ran = runs;
           has_run = how-run late m runs some;
@@ -312,7 +316,7 @@ module _ {X : Type 0} (f : Further X) (deadline : X → Option ℕ) where
         by_due (inl e) = subst (λ o. IsInTime o n.time) (sym e) (by_first (deadline m.board.units.further) in_time clear.within)
         by_due (inr d) = subst (λ o. IsInTime o n.time) (sym d.1) (omega (arith, d.2), omega (arith, d.2, time, clear.few), omega (arith, d.3))
 
-    module _ (total : ℕ) (m0 : Machine X) (o0 : Out) (r0 : List Begun) (i a : ℕ) (m : Machine X) (o : Out) (r : Buffer Begun) (l : Living total m0 o0 r0 i m o r) (few : a ≤ total - i) (clear : IsClearFor f deadline a m) (p : Out) (q : Buffer Begun) (reported : Reported f a m o r p q) where
+    module _ (total : ℕ) (m0 : Machine X) (o0 : Out) (r0 : Buffer Begun) (i a : ℕ) (m : Machine X) (o : Out) (r : Buffer Begun) (l : Living total m0 o0 r0 i m o r) (few : a ≤ total - i) (clear : IsClearFor f deadline a m) (p : Out) (q : Buffer Begun) (reported : Reported f a m o r p q) where
       pub living-next : (n : Machine X) → Stood f a m n → p.failed ≡ false → Living total m0 o0 r0 (i + a) n p q
       living-next n stood unbroken = record {
         along = along-next f m0 o0 r0 i a m o r n p q l.along reported stood;
@@ -329,13 +333,13 @@ module _ {X : Type 0} (f : Further X) (deadline : X → Option ℕ) where
 
   -- ---- by activities
 
-  pub record Stepping (count : ℕ) (m0 : Machine X) (o0 : Out) (r0 : List Begun) (left : ℕ) (m : Machine X) (o : Out) (r : Buffer Begun) : Type 0 where
+  pub record Stepping (count : ℕ) (m0 : Machine X) (o0 : Out) (r0 : Buffer Begun) (left : ℕ) (m : Machine X) (o : Out) (r : Buffer Begun) : Type 0 where
     pub states : ℕ
     pub living : Living (states_of_activities f count m0) m0 o0 r0 states m o r
     pub rest : states_of_activities f count m0 ≡ states + states_of_activities f left m
     pub room : HasRoom f m0 count left m
 
-  pub stepping-first : (count : ℕ) (m : Machine X) (o : Out) (r : Buffer Begun) → IsKept r → IsInTime (deadline m.board.units.further) m.time → o.failed ≡ false → Stepping count m o r.items count m o r
+  pub stepping-first : (count : ℕ) (m : Machine X) (o : Out) (r : Buffer Begun) → IsKept r → IsInTime (deadline m.board.units.further) m.time → o.failed ≡ false → Stepping count m o r count m o r
   stepping-first count m o r kept in_time unbroken = record {
     states = 0;
     living = living-first (states_of_activities f count m) m o r kept in_time unbroken;
@@ -381,7 +385,7 @@ module _ {X : Type 0} (f : Further X) (deadline : X → Option ℕ) where
       omega (arith, sum, rest, none)
 
   -- the deadline has come, and a state is left or none
-  pub stepping-late : (count : ℕ) (m0 : Machine X) (o0 : Out) (r0 : Buffer Begun) (left : ℕ) (m : Machine X) (o : Out) (r : Buffer Begun) (s : Stepping count m0 o0 r0.items left m o r) (b : Bool) (states : ℕ) → 0 < left → m.ended ≡ None →
+  pub stepping-late : (count : ℕ) (m0 : Machine X) (o0 : Out) (r0 : Buffer Begun) (left : ℕ) (m : Machine X) (o : Out) (r : Buffer Begun) (s : Stepping count m0 o0 r0 left m o r) (b : Bool) (states : ℕ) → 0 < left → m.ended ≡ None →
       is_at (deadline m.board.units.further) m.time ≡ true → states ≡ (current m).left → b ≡ nat_lt 0 states → Ends f deadline (states_of_activities f count m0) m0 s.states m (how_of b m) b
   stepping-late count m0 o0 r0 left m o r s true states many lives due is e =
       let one : left ≡ suc (left - 1) = omega (arith, many) in
@@ -394,19 +398,19 @@ module _ {X : Type 0} (f : Further X) (deadline : X → Option ℕ) where
       living-over (states_of_activities f count m0) m0 o0 r0 s.states m o r s.living (inr (omega (arith, s.rest, none)))
 
   -- no activity is left
-  pub stepping-over : (count : ℕ) (m0 : Machine X) (o0 : Out) (r0 : List Begun) (left : ℕ) (m : Machine X) (o : Out) (r : Buffer Begun) (s : Stepping count m0 o0 r0 left m o r) → left ≡ 0 → states_of_activities f count m0 ≤ s.states
+  pub stepping-over : (count : ℕ) (m0 : Machine X) (o0 : Out) (r0 : Buffer Begun) (left : ℕ) (m : Machine X) (o : Out) (r : Buffer Begun) (s : Stepping count m0 o0 r0 left m o r) → left ≡ 0 → states_of_activities f count m0 ≤ s.states
   stepping-over count m0 o0 r0 left m o r s none =
       let over : states_of_activities f left m ≡ 0 = ap (λ k. states_of_activities f k m) none ∙ states-none f m in
       omega (arith, s.rest, over)
 
   -- the states of the present activity are among those that are left
-  pub stepping-few : (count : ℕ) (m0 : Machine X) (o0 : Out) (r0 : List Begun) (left : ℕ) (m : Machine X) (o : Out) (r : Buffer Begun) (s : Stepping count m0 o0 r0 left m o r) (a : ℕ) → 0 < left → a ≤ (current m).left → a ≤ states_of_activities f count m0 - s.states
+  pub stepping-few : (count : ℕ) (m0 : Machine X) (o0 : Out) (r0 : Buffer Begun) (left : ℕ) (m : Machine X) (o : Out) (r : Buffer Begun) (s : Stepping count m0 o0 r0 left m o r) (a : ℕ) → 0 < left → a ≤ (current m).left → a ≤ states_of_activities f count m0 - s.states
   stepping-few count m0 o0 r0 left m o r s a many few =
       let one : left ≡ suc (left - 1) = omega (arith, many) in
       let sum = states-more f left (left - 1) m (run_for f (current m).left m).machine one refl in
       omega (arith, s.rest, sum, few)
 
-  module _ (feeds : Feeds deadline f) (count : ℕ) (m0 : Machine X) (o0 : Out) (r0 : List Begun) (left : ℕ) (m : Machine X) (o : Out) (r : Buffer Begun) (s : Stepping count m0 o0 r0 left m o r) (many : 0 < left) (lives : m.ended ≡ None) where
+  module _ (feeds : Feeds deadline f) (count : ℕ) (m0 : Machine X) (o0 : Out) (r0 : Buffer Begun) (left : ℕ) (m : Machine X) (o : Out) (r : Buffer Begun) (s : Stepping count m0 o0 r0 left m o r) (many : 0 < left) (lives : m.ended ≡ None) where
     pub stepping-next : (activities : ℕ) (n : Machine X) (p : Out) (q : Buffer Begun) → PassesInLife f deadline m o r (Ok activities) n p q → p.failed ≡ false → Stepping count m0 o0 r0 (left - activities) n p q
     stepping-next activities n p q h unbroken =
         let on = steps-on m0 count left activities m o r n p q s.room many lives h in
@@ -424,65 +428,88 @@ module _ {X : Type 0} (f : Further X) (deadline : X → Option ℕ) where
         let on = steps-on m0 count left activities m o r n p q s.room many lives h in
         omega (arith, on.sum, on.some)
 
--- ---- to a state or a breakpoint
+-- ---- to a state, or to what stops the run before
 
-module _ {X : Type 0} (f : Further X) (deadline : X → Option ℕ) (breaks : List ℕ) (until : ℕ) where
-  pub record Running (m0 : Machine X) (o0 : Out) (r0 : List Begun) (m : Machine X) (o : Out) (r : Buffer Begun) : Type 0 where
-    pub states : ℕ
-    pub living : Living f deadline (states_of_run f breaks until m0) m0 o0 r0 states m o r
-    pub rest : states_of_run f breaks until m0 ≡ states + states_of_run f breaks until m
+module _ {X : Type 0} (f : Further X) (deadline : X → Option ℕ) (stop : Stopping X) (until : ℕ) where
+  pub record Running (m0 : Machine X) (o0 : Out) (r0 : Buffer Begun) (states : ℕ) (m : Machine X) (o : Out) (r : Buffer Begun) : Type 0 where
+    pub living : Living f deadline (states_until f stop until m0) m0 o0 r0 states m o r
+    pub rest : states_until f stop until m0 ≡ states + states_to_stop f stop (noted_for f stop false states m0) (until - m.time) m
+    pub calm : m.under_way ≡ None → noted_for f stop false states m0 ≡ false
     pub time : m.time ≤ max until m0.time
 
-  pub running-first : (m : Machine X) (o : Out) (r : Buffer Begun) → IsKept r → IsInTime (deadline m.board.units.further) m.time → o.failed ≡ false → Running m o r.items m o r
-  running-first m o r kept in_time unbroken = record {
-    states = 0;
-    living = living-first f deadline (states_of_run f breaks until m) m o r kept in_time unbroken;
-    rest = let e : (n : ℕ) → n ≡ 0 + n = λ n. omega arith in e (states_of_run f breaks until m);
-    time = omega arith;
-  }
+  -- before the first state, of a machine that is the one that was looked at
+  pub running-first : (m x : Machine X) (o : Out) (r : Buffer Begun) → x ≡ m → IsKept r → IsInTime (deadline m.board.units.further) m.time → o.failed ≡ false → Running m o r 0 x o r
+  running-first m x o r same kept in_time unbroken =
+      let none : noted_for f stop false 0 m ≡ false = noted-none f stop false m in
+      let all : states_until f stop until m ≡ 0 + states_to_stop f stop (noted_for f stop false 0 m) (until - m.time) m =
+      (let e : (n : ℕ) → n ≡ 0 + n = λ n. omega arith in e (states_until f stop until m)) ∙ ap (λ b. 0 + states_to_stop f stop b (until - m.time) m) (sym none) in
+      let time : x.time ≡ m.time = ap (λ (y : Machine X). y.time) same in
+      record {
+        living = subst (λ (y : Machine X). Living f deadline (states_until f stop until m) m o r 0 y o r) (sym same) (living-first f deadline (states_until f stop until m) m o r kept in_time unbroken);
+        rest = all ∙ ap (λ (y : Machine X). 0 + states_to_stop f stop (noted_for f stop false 0 m) (until - y.time) y) (sym same);
+        calm = λ between. none;
+        time = omega (arith, time);
+      }
 
-  -- a run to a state takes a state, where that is still to come
-  break-some : (k : ℕ) (m : Machine X) → 0 < k → 0 < states_to_break f breaks k m
-  unfolding states_to_break
-  break-some zero m some = absurd (omega (arith, some))
-  break-some (suc k) m some = omega arith
+  -- states that pass at once pass behind those so far
+  pub running-at-once : (states : ℕ) (m0 m : Machine X) (o0 : Out) (r0 : Buffer Begun) (o : Out) (r : Buffer Begun) (s : Running m0 o0 r0 states m o r) (a : ℕ) → AreAtOnce f a m → AreAtOnce f a (run_for f states m0).machine
+  running-at-once states m0 m o0 r0 o r s a h = subst (AreAtOnce f a) s.living.along.machine h
 
-  pub running-more : (m0 m : Machine X) (o0 : Out) (r0 : List Begun) (o : Out) (r : Buffer Begun) (s : Running m0 o0 r0 m o r) → m.time < until → s.states < states_of_run f breaks until m0
-  running-more m0 m o0 r0 o r s less =
-      let some = break-some (until - m.time) m (omega (arith, less)) in
-      omega (arith, s.rest, some)
+  module _ (states : ℕ) (m0 m : Machine X) (o0 : Out) (r0 : Buffer Begun) (o : Out) (r : Buffer Begun) (s : Running m0 o0 r0 states m o r) where
+    pub running-more : m.time < until → states < states_until f stop until m0
+    running-more less =
+        let some = stop-some f stop (noted_for f stop false states m0) (until - m.time) m (omega (arith, less)) in
+        omega (arith, s.rest, some)
 
-  -- the state has come
-  pub running-over : (m0 m : Machine X) (o0 : Out) (r0 : List Begun) (o : Out) (r : Buffer Begun) (s : Running m0 o0 r0 m o r) → until ≤ m.time → states_of_run f breaks until m0 ≤ s.states
-  running-over m0 m o0 r0 o r s past =
-      let none : until - m.time ≡ 0 = omega (arith, past) in
-      let over : states_of_run f breaks until m ≡ 0 = ap (λ n. states_to_break f breaks n m) none ∙ break-none f breaks m in
-      omega (arith, s.rest, over)
+    -- the state has come
+    pub running-over : until ≤ m.time → states_until f stop until m0 ≤ states
+    running-over past =
+        let noted : Bool = noted_for f stop false states m0 in
+        let none : until - m.time ≡ 0 = omega (arith, past) in
+        let over : states_to_stop f stop noted (until - m.time) m ≡ 0 = ap (λ n. states_to_stop f stop noted n m) none ∙ stop-none f stop noted m in
+        omega (arith, s.rest, over)
 
-  module _ (m0 : Machine X) (o0 : Out) (r0 : List Begun) (m : Machine X) (o : Out) (r : Buffer Begun) (s : Running m0 o0 r0 m o r) (a : ℕ) (few : a ≤ until - m.time) (some : 0 < a) (free : IsClear f breaks a m) where
-    -- some states of the run, and others
-    pub running-part : a ≤ states_of_run f breaks until m0 - s.states
-    running-part =
-        let sum : until - m.time ≡ a + (until - m.time - a) = omega (arith, few) in
-        let rest = break-any f breaks a (until - m.time - a) m some free in
-        let all : states_of_run f breaks until m ≡ a + rest.0 = ap (λ n. states_to_break f breaks n m) sum ∙ rest.1 in
-        omega (arith, s.rest, all)
+    module _ (a : ℕ) (few : a ≤ until - m.time) (some : 0 < a) (free : IsClear f stop a m) where
+      running-clear : (i : ℕ) → 0 < i → i < a → stops_behind f stop (noted_for f stop false states m0) i m ≡ false
+      running-clear = free (noted_for f stop false states m0) s.calm
 
-    -- an activity would start at a breakpoint behind them
-    pub running-break : (n : Machine X) → Stood f a m n → is_at_break breaks n ≡ true → states_of_run f breaks until m0 ≤ s.states + a
-    running-break n stood here =
-        let sum : until - m.time ≡ a + (until - n.time) = omega (arith, few, stood.time) in
-        let all : states_of_run f breaks until m ≡ a = ap (λ k. states_to_break f breaks k m) sum ∙ break-there f breaks a (until - n.time) m n some free stood.machine here in
-        omega (arith, s.rest, all)
+      -- behind them as behind all states so far
+      running-behind : stops_behind f stop false (states + a) m0 ≡ stops_behind f stop (noted_for f stop false states m0) a m
+      running-behind = behind-add f stop states a false m0 ∙ ap (stops_behind f stop (noted_for f stop false states m0) a) (sym s.living.along.machine)
 
-    -- or not
-    pub running-next : (feeds : Feeds deadline f) → IsClearFor f deadline a m → (n : Machine X) (p : Out) (q : Buffer Begun) → Reported f a m o r p q → Stood f a m n → p.failed ≡ false → is_at_break breaks n ≡ false → Running m0 o0 r0 n p q
-    running-next feeds clear n p q reported stood unbroken none =
-        let sum : until - m.time ≡ a + (until - n.time) = omega (arith, few, stood.time) in
-        let all : states_of_run f breaks until m ≡ a + states_of_run f breaks until n = ap (λ k. states_to_break f breaks k m) sum ∙ break-past f breaks a (until - n.time) m n free stood.machine none in
-        record {
-          states = s.states + a;
-          living = living-next f deadline feeds (states_of_run f breaks until m0) m0 o0 r0 s.states a m o r s.living running-part clear p q reported n stood unbroken;
-          rest = omega (arith, s.rest, all);
-          time = omega (arith, s.time, stood.time, few, some);
-        }
+      -- some states of the run, and others
+      pub running-part : a ≤ states_until f stop until m0 - states
+      running-part =
+          let noted : Bool = noted_for f stop false states m0 in
+          let sum : until - m.time ≡ a + (until - m.time - a) = omega (arith, few) in
+          let rest = stop-any f stop noted a (until - m.time - a) m running-clear some in
+          let all : states_to_stop f stop noted (until - m.time) m ≡ a + rest.0 = ap (λ n. states_to_stop f stop noted n m) sum ∙ rest.1 in
+          omega (arith, s.rest, all)
+
+      -- the run stops behind them
+      pub running-stop : stops_behind f stop false (states + a) m0 ≡ true → states_until f stop until m0 ≤ states + a
+      running-stop here =
+          let noted : Bool = noted_for f stop false states m0 in
+          let sum : until - m.time ≡ a + (until - m.time - a) = omega (arith, few) in
+          let all : states_to_stop f stop noted (until - m.time) m ≡ a =
+          ap (λ k. states_to_stop f stop noted k m) sum ∙ stop-there f stop noted a (until - m.time - a) m running-clear some (sym running-behind ∙ here) in
+          omega (arith, s.rest, all)
+
+      -- or not
+      pub running-next : (feeds : Feeds deadline f) → IsClearFor f deadline a m → (n : Machine X) (p : Out) (q : Buffer Begun) → Reported f a m o r p q → Stood f a m n → p.failed ≡ false → stops_behind f stop false (states + a) m0 ≡ false → Running m0 o0 r0 (states + a) n p q
+      running-next feeds clear n p q reported stood unbroken none =
+          let noted : Bool = noted_for f stop false states m0 in
+          let sum : until - m.time ≡ a + (until - n.time) = omega (arith, few, stood.time) in
+          let later : noted_for f stop noted a m ≡ noted_for f stop false (states + a) m0 =
+          ap (noted_for f stop noted a) s.living.along.machine ∙ sym (noted-add f stop states a false m0) in
+          let all : states_to_stop f stop noted (until - m.time) m ≡ a + states_to_stop f stop (noted_for f stop false (states + a) m0) (until - n.time) n =
+          ap (λ k. states_to_stop f stop noted k m) sum
+          ∙ stop-past f stop noted a (until - n.time) m running-clear n stood.machine (sym running-behind ∙ none)
+          ∙ ap (λ b. a + states_to_stop f stop b (until - n.time) n) later in
+          let next = living-next f deadline feeds (states_until f stop until m0) m0 o0 r0 states a m o r s.living running-part clear p q reported n stood unbroken in
+          record {
+            living = next;
+            rest = omega (arith, s.rest, all);
+            calm = λ between. calm-there f stop (noted_for f stop false (states + a) m0) (run_for f (states + a) m0).machine none (ap (λ (x : Machine X). x.under_way) (sym next.along.machine) ∙ between);
+            time = omega (arith, s.time, stood.time, few, some);
+          }

@@ -1,7 +1,7 @@
 -- A command on its way: so many states have passed since it began.
 use Rattle.std.proofs.Common.{◌≡◌, ℕ, ◌+◌, ◌-◌, ◌*◌, ◌<◌, ◌≤◌, max, is_some, Bool, true, false, if◌then◌else◌, nat_lt, List, [], ◌++◌, Option, Some, None, refl, sym, ap, subst, ◌∙◌, append_assoc, append-nil, arith, IfSome, is_none, ◌↔◌, ◌==◌, ◌&&◌, Result, Ok, Err, OnOk, OnErr}
-use Rattle.std.specs.List.{list_any}
 use Rattle.std.proofs.lemmas.Bool.Decides.{nat_tests}
+use Rattle.std.proofs.Math.Nat.{mul-add}
 use Rattle.circular_buffer.specs.Buffer.{Buffer, buffer, keep_last}
 use Rattle.kc_extra.specs.Further.{Further}
 use Rattle.kc_trace.specs.declared.record.Record.{Record}
@@ -21,8 +21,8 @@ use Rattle.kc_machine.specs.Board.{Whole}
 use Rattle.kc_machine.specs.Stepping.{IsBrief}
 use Rattle.kc_debug.specs.declared.activities.Begun.{Begun}
 use Rattle.kc_debug.specs.Activities.{begins_unless, beginning, begun_for}
-use Rattle.kc_debug.specs.Stops.{activity_states, is_at_break, states_at_once}
-use Rattle.kc_debug.specs.Passing.{IsKept, Passed, Reported, Stood, Spends}
+use Rattle.kc_debug.specs.Stops.{activity_states, is_at, states_at_once}
+use Rattle.kc_debug.specs.Passing.{IsKept, Passed, Reported, Stood, Spends, SpendsLooking}
 use Rattle.kc_debug.specs.Stands.{FailsWithin}
 use Rattle.kc_debug.proofs.Last.{last-append, last-same}
 use Rattle.kc_debug.proofs.Begins.{begun-none, begun-add, begun-ended, begun-activity}
@@ -52,17 +52,8 @@ busy m b e h = by_way m.under_way refl
     by_way (Some activity) is = ap (λ u. begins_unless u m) is
     by_way None is = absurd (let t : b ≡ true = h.1 is in let f : true ≡ false = sym t ∙ e in cc)
 
-pub at_break : {X : Type 0} (m : Machine X) (breaks : List ℕ) (b r : Bool) (pc : ℕ) → b ≡ true → ((b ≡ true) ↔ (m.under_way ≡ None)) → pc ≡ m.cpu.pc →
-    r ≡ list_any (λ addr. addr == pc) breaks → r ≡ is_at_break breaks m
-at_break m breaks b r pc t h e is =
-    is ∙ ap (λ p. list_any (λ addr. addr == p) breaks) e ∙ ap (λ u. is_none u && list_any (λ addr. addr == m.cpu.pc) breaks) (sym (h.0 t))
-
-pub not_at_break : {X : Type 0} (m : Machine X) (breaks : List ℕ) (b : Bool) → b ≡ false → ((b ≡ true) ↔ (m.under_way ≡ None)) → false ≡ is_at_break breaks m
-not_at_break m breaks b e h = by_way m.under_way refl
-  where
-    by_way : (u : Option UnderWay) → m.under_way ≡ u → false ≡ is_at_break breaks m
-    by_way (Some activity) is = ap (λ u. is_none u && list_any (λ addr. addr == m.cpu.pc) breaks) (sym is)
-    by_way None is = absurd (let t : b ≡ true = h.1 is in let f : true ≡ false = sym t ∙ e in cc)
+pub at_break : {X : Type 0} (m : Machine X) (breaks : List ℕ) (b r : Bool) → b ≡ true → ((b ≡ true) ↔ (m.under_way ≡ None)) → r ≡ is_at breaks m → r ≡ (is_none m.under_way && is_at breaks m)
+at_break m breaks b r t h is = is ∙ ap (λ u. is_none u && is_at breaks m) (sym (h.0 t))
 
 -- how many states pass at once, as a test of their number reports
 pub at-once-near : {X : Type 0} (until now : ℕ) (m : Machine X) (b : Bool) → now ≡ m.time → b ≡ nat_lt (until - now) 255 → b ≡ true → states_at_once until m ≡ 1
@@ -79,13 +70,19 @@ is-far until now b is far = grind (arith, nat_tests, is, far)
 -- what is kept stays where nothing is noted
 pub kept-same : (r : Buffer Begun) (xs : List Begun) → IsKept r → xs ≡ [] → r ≡ buffer (keep_last r.capacity (r.items ++ xs)) r.capacity
 kept-same r xs kept none =
-    let cap : 33 ≡ r.capacity = sym (ap (λ (b : Buffer Begun). b.capacity) kept) in
     let all : r.items ≡ r.items ++ xs = sym (append-nil r.items) ∙ ap (λ ys. r.items ++ ys) (sym none) in
-    kept ∙ (λ i. buffer (keep_last (cap i) (all i)) (cap i))
+    ap (λ ys. buffer ys r.capacity) (kept ∙ ap (keep_last r.capacity) all)
 
 -- what holds the last of a list is kept
-pub kept-last : (r : Buffer Begun) (xs : List Begun) → r ≡ buffer (keep_last 33 xs) 33 → IsKept r
-kept-last r xs is = is ∙ ap (λ ys. buffer ys 33) (sym (last-same 33 xs) ∙ ap (λ (b : Buffer Begun). keep_last 33 b.items) (sym is))
+pub kept-last : (r : Buffer Begun) (n : ℕ) (xs : List Begun) → r ≡ buffer (keep_last n xs) n → IsKept r
+kept-last r n xs is =
+    ap (λ (b : Buffer Begun). b.items) is
+    ∙ sym (last-same n xs)
+    ∙ ap (λ (b : Buffer Begun). keep_last b.capacity b.items) (sym is)
+
+-- what is kept of 33
+pub ring-33 : (r q : Buffer Begun) (xs : List Begun) → r ≡ buffer (keep_last 33 r.items) 33 → q ≡ buffer (keep_last r.capacity xs) r.capacity → q ≡ buffer (keep_last 33 xs) 33
+ring-33 r q xs kept h = subst (λ n. q ≡ buffer (keep_last n xs) n) (ap (λ (b : Buffer Begun). b.capacity) kept) h
 
 -- a machine that has ended has ended in some way
 pub some_end : (o : Option End) (b : Bool) → b ≡ true → b ≡ is_some o → (how : End) × (o ≡ Some how)
@@ -93,21 +90,21 @@ some_end (Some how) b e h = (how, refl)
 some_end None b e h = absurd cc
 
 module _ {X : Type 0} (f : Further X) where
-  pub record Along (m0 : Machine X) (o0 : Out) (r0 : List Begun) (states : ℕ) (m : Machine X) (o : Out) (r : Buffer Begun) : Type 0 where
+  pub record Along (m0 : Machine X) (o0 : Out) (r0 : Buffer Begun) (states : ℕ) (m : Machine X) (o : Out) (r : Buffer Begun) : Type 0 where
     pub machine : m ≡ (run_for f states m0).machine
     pub lines : Prints o0 (run_for f states m0).records o
-    pub begun : r ≡ buffer (keep_last 33 (r0 ++ begun_for f states m0)) 33
+    pub begun : r ≡ buffer (keep_last r0.capacity (r0.items ++ begun_for f states m0)) r0.capacity
 
   -- at the beginning
-  pub along-first : (m : Machine X) (o : Out) (r : Buffer Begun) → IsKept r → Along m o r.items 0 m o r
+  pub along-first : (m : Machine X) (o : Out) (r : Buffer Begun) → IsKept r → Along m o r 0 m o r
   along-first m o r kept = record {
     machine = ap (λ (s : Stepped X). s.machine) (sym (run-none f m));
     lines = Prints-none _ o (ap (λ (s : Stepped X). s.records) (sym (run-none f m)));
-    begun = kept ∙ ap (λ xs. buffer (keep_last 33 xs) 33) (sym (append-nil r.items) ∙ ap (λ xs. r.items ++ xs) (sym (begun-none f m)));
+    begun = ap (λ ys. buffer ys r.capacity) (kept ∙ ap (keep_last r.capacity) (sym (append-nil r.items) ∙ ap (λ xs. r.items ++ xs) (sym (begun-none f m))));
   }
 
-  pub along-kept : (m0 : Machine X) (o0 : Out) (r0 : List Begun) (i : ℕ) (m : Machine X) (o : Out) (r : Buffer Begun) → Along m0 o0 r0 i m o r → IsKept r
-  along-kept m0 o0 r0 i m o r along = kept-last r (r0 ++ begun_for f i m0) along.begun
+  pub along-kept : (m0 : Machine X) (o0 : Out) (r0 : Buffer Begun) (i : ℕ) (m : Machine X) (o : Out) (r : Buffer Begun) → Along m0 o0 r0 i m o r → IsKept r
+  along-kept m0 o0 r0 i m o r along = kept-last r r0.capacity (r0.items ++ begun_for f i m0) along.begun
 
   -- some states of an activity have been reported
   pub activity-reported : (n : ℕ) (m : Machine X) (o : Out) (r : Buffer Begun) (x : Machine X) (p : Out) (q : Buffer Begun) → m.ended ≡ None → Passed f n m o r x p q → Reported f n m o r p q
@@ -121,7 +118,7 @@ module _ {X : Type 0} (f : Further X) where
   activity-stood n m o r x p q next = record { machine = next.machine; time = next.time }
 
   -- the lines of some states more
-  pub along-lines : (m0 : Machine X) (o0 : Out) (r0 : List Begun) (i n : ℕ) (m : Machine X) (o : Out) (r : Buffer Begun) (p : Out) →
+  pub along-lines : (m0 : Machine X) (o0 : Out) (r0 : Buffer Begun) (i n : ℕ) (m : Machine X) (o : Out) (r : Buffer Begun) (p : Out) →
       Along m0 o0 r0 i m o r → Prints o (run_for f n m).records p → Prints o0 (run_for f (i + n) m0).records p
   along-lines m0 o0 r0 i n m o r p along lines =
       let same : run_for f n m ≡ run_for f n (run_for f i m0).machine = ap (run_for f n) along.machine in
@@ -130,26 +127,26 @@ module _ {X : Type 0} (f : Further X) where
       (Prints-append o0 (run_for f i m0).records o (run_for f n m).records p along.lines lines)
 
   -- some states more
-  pub along-next : (m0 : Machine X) (o0 : Out) (r0 : List Begun) (i n : ℕ) (m : Machine X) (o : Out) (r : Buffer Begun) (x : Machine X) (p : Out) (q : Buffer Begun) →
+  pub along-next : (m0 : Machine X) (o0 : Out) (r0 : Buffer Begun) (i n : ℕ) (m : Machine X) (o : Out) (r : Buffer Begun) (x : Machine X) (p : Out) (q : Buffer Begun) →
       Along m0 o0 r0 i m o r → Reported f n m o r p q → Stood f n m x → Along m0 o0 r0 (i + n) x p q
   along-next m0 o0 r0 i n m o r x p q along reported stood =
       let mid : Machine X = (run_for f i m0).machine in
       let same : run_for f n m ≡ run_for f n mid = ap (run_for f n) along.machine in
       let all : run_for f (i + n) m0 ≡ and_then (run_for f i m0) (run_for f n) = run_for-add f i n m0 in
-      let more : (r0 ++ begun_for f i m0) ++ begun_for f n m ≡ r0 ++ begun_for f (i + n) m0 =
-      append_assoc r0 (begun_for f i m0) (begun_for f n m)
-      ∙ ap (λ y. r0 ++ (begun_for f i m0 ++ begun_for f n y)) along.machine
-      ∙ ap (λ xs. r0 ++ xs) (sym (begun-add f i n m0)) in
+      let more : (r0.items ++ begun_for f i m0) ++ begun_for f n m ≡ r0.items ++ begun_for f (i + n) m0 =
+      append_assoc r0.items (begun_for f i m0) (begun_for f n m)
+      ∙ ap (λ y. r0.items ++ (begun_for f i m0 ++ begun_for f n y)) along.machine
+      ∙ ap (λ xs. r0.items ++ xs) (sym (begun-add f i n m0)) in
       record {
         machine = stood.machine ∙ ap (λ (s : Stepped X). s.machine) same ∙ ap (λ (s : Stepped X). s.machine) (sym all);
         lines = along-lines m0 o0 r0 i n m o r p along reported.lines;
         begun = reported.begun
             ∙ ap (λ (b : Buffer Begun). buffer (keep_last b.capacity (b.items ++ begun_for f n m)) b.capacity) along.begun
-            ∙ ap (λ xs. buffer xs 33) (last-append 33 (r0 ++ begun_for f i m0) (begun_for f n m) ∙ ap (keep_last 33) more);
+            ∙ ap (λ xs. buffer xs r0.capacity) (last-append r0.capacity (r0.items ++ begun_for f i m0) (begun_for f n m) ∙ ap (keep_last r0.capacity) more);
       }
 
   -- an ended machine stands still
-  pub along-over : (m0 : Machine X) (o0 : Out) (r0 : List Begun) (i k : ℕ) (m : Machine X) (o : Out) (r : Buffer Begun) (how : End) →
+  pub along-over : (m0 : Machine X) (o0 : Out) (r0 : Buffer Begun) (i k : ℕ) (m : Machine X) (o : Out) (r : Buffer Begun) (how : End) →
       Along m0 o0 r0 i m o r → m.ended ≡ Some how → Along m0 o0 r0 (i + k) m o r
   along-over m0 o0 r0 i k m o r how along over =
       let mid : Machine X = (run_for f i m0).machine in
@@ -162,7 +159,7 @@ module _ {X : Type 0} (f : Further X) where
             (sym (append-nil (run_for f i m0).records) ∙ ap (λ (s : Stepped X). (run_for f i m0).records ++ s.records) (sym rest) ∙ ap (λ (s : Stepped X). s.records) (sym all))
             along.lines;
         begun = along.begun
-            ∙ ap (λ xs. buffer (keep_last 33 (r0 ++ xs)) 33)
+            ∙ ap (λ xs. buffer (keep_last r0.capacity (r0.items ++ xs)) r0.capacity)
             (sym (append-nil (begun_for f i m0)) ∙ ap (λ xs. begun_for f i m0 ++ xs) (sym (begun-ended f k mid how ended)) ∙ sym (begun-add f i k m0));
       }
 
@@ -173,7 +170,7 @@ module _ {X : Type 0} (f : Further X) where
       (subst (λ (s : Stepped X). Prints o0 s.records o) (sym (run_for-add f i k m0)) (Prints-longer o0 _ _ o failed lines))
 
   -- the end of the way
-  pub along-done : (m0 : Machine X) (o0 : Out) (r0 : List Begun) (i total : ℕ) (m : Machine X) (o : Out) (r : Buffer Begun) →
+  pub along-done : (m0 : Machine X) (o0 : Out) (r0 : Buffer Begun) (i total : ℕ) (m : Machine X) (o : Out) (r : Buffer Begun) →
       Along m0 o0 r0 i m o r → total ≡ i → Along m0 o0 r0 total m o r
   along-done m0 o0 r0 i total m o r along e = subst (λ n. Along m0 o0 r0 n m o r) (sym e) along
 
@@ -265,6 +262,41 @@ module _ {X : Type 0} (f : Further X) where
   spends-within k n m0 s0 m s few spends =
       let cost = touch-within k n m0.machine few in
       record { steps = omega (arith, spends.steps, cost); moves = omega (arith, spends.moves, cost) }
+
+  -- the same with looks: before the first state
+  pub looking-first : (looks : ℕ) (m : Whole X) (s : ℕ) (n : Whole X) (t : ℕ) → n.moves ≤ m.moves + looks → t ≡ s → SpendsLooking f looks 0 m s n t
+  looking-first looks m s n t moves steps =
+      let one : looks * (0 + 1) ≡ looks = omega arith in
+      record { steps = omega (arith, steps); moves = omega (arith, moves, one) }
+
+  -- some states more, and a look behind them
+  pub looking-add : (looks i k : ℕ) (m0 : Whole X) (s0 : ℕ) (m : Whole X) (s : ℕ) (n : Whole X) (t : ℕ) (x : Whole X) (u : ℕ) → m.machine ≡ (run_for f i m0.machine).machine → 0 < k →
+      SpendsLooking f looks i m0 s0 m s → Spends f k m s n t → x.moves ≤ n.moves + looks → u ≡ t → SpendsLooking f looks (i + k) m0 s0 x u
+  looking-add looks i k m0 s0 m s n t x u is some before after moves steps =
+      let same : (run_for f k m.machine).touch ≡ (run_for f k (run_for f i m0.machine).machine).touch = ap (λ y. (run_for f k y).touch) is in
+      let all = touch-add i k m0.machine in
+      let sum : i + k + 1 ≡ (i + 1) + (1 + (k - 1)) = omega (arith, some) in
+      let product : looks * (i + k + 1) ≡ looks * (i + 1) + (looks * 1 + looks * (k - 1)) =
+      ap (λ j. looks * j) sum ∙ mul-add looks (i + 1) (1 + (k - 1)) ∙ ap (λ j. looks * (i + 1) + j) (mul-add looks 1 (k - 1)) in
+      let one : looks * 1 ≡ looks = omega arith in
+      record { steps = omega (arith, before.steps, after.steps, same, all, steps); moves = omega (arith, before.moves, after.moves, same, all, moves, product, one) }
+
+  -- more states do no less
+  pub looking-within : (looks k n : ℕ) (m0 : Whole X) (s0 : ℕ) (m : Whole X) (s : ℕ) → k ≤ n → SpendsLooking f looks k m0 s0 m s → SpendsLooking f looks n m0 s0 m s
+  looking-within looks k n m0 s0 m s few spends =
+      let cost = touch-within k n m0.machine few in
+      let sum : n + 1 ≡ (k + 1) + (n - k) = omega (arith, few) in
+      let product : looks * (n + 1) ≡ looks * (k + 1) + looks * (n - k) = ap (λ j. looks * j) sum ∙ mul-add looks (k + 1) (n - k) in
+      record { steps = omega (arith, spends.steps, cost); moves = omega (arith, spends.moves, cost, product) }
+
+  -- a pass in which the sink has failed has no look behind it
+  pub looking-last : (looks i k : ℕ) (m0 : Whole X) (s0 : ℕ) (m : Whole X) (s : ℕ) (n : Whole X) (t : ℕ) → m.machine ≡ (run_for f i m0.machine).machine → 0 < k →
+      SpendsLooking f looks i m0 s0 m s → Spends f k m s n t → SpendsLooking f looks (i + k) m0 s0 n t
+  looking-last looks i k m0 s0 m s n t is some before after = looking-add looks i k m0 s0 m s n t n t is some before after (omega arith) refl
+
+  -- where nothing is looked at
+  pub looking-none : (states : ℕ) (m : Whole X) (s : ℕ) (n : Whole X) (t : ℕ) → SpendsLooking f 0 states m s n t → Spends f states m s n t
+  looking-none states m s n t h = record { steps = h.steps; moves = omega (arith, h.moves) }
 
   -- the sink has failed in the lines of the first states that pass at once
   pub fails-first : (at_once : Machine X → ℕ) (m : Machine X) (o : Out) (r : Buffer Begun) (n : Machine X) (p : Out) (q : Buffer Begun) →

@@ -34,6 +34,7 @@ use Rattle.kc_debug.specs.Activities.{begun_for, finished}
 use Rattle.kc_debug.specs.Debugging.{how_of, is_spent, last_of, past_of, past_in, seen, kept_of, over_by, over_text, standing, IsDone, IsInTime, IsHeld, IsBorn, IsReady, Goes, HasLived}
 use Rattle.kc_debug.specs.InLives.{InLife, says, stand_line, over_of, born, lived, followed, ended_as, settled, goes_on, gone_for}
 use Rattle.kc_debug.proofs.Last.{last-same}
+use Rattle.kc_debug.proofs.Passing.{ring-33}
 use Rattle.kc_debug.proofs.Kept.{last-map, on-ok, Near, near-kept, near-first, near-standing, near-done, near-settled}
 
 -- what is so in any case is so where a call is Err
@@ -285,6 +286,9 @@ module _ {X : Type 0} {dx : extra.Ghosts X} {dw : extra.Ghosts Watchdog} (f : Fu
       abbrev pub gone_to : Debugged
       gone_to = record s { machine = w; begun = q }
 
+      ring : q ≡ buffer (keep_last 33 (s.begun.items ++ begun_for f (w.machine.time - s.machine.machine.time) s.machine.machine)) 33
+      ring = ring-33 s.begun q (s.begun.items ++ begun_for f (w.machine.time - s.machine.machine.time) s.machine.machine) ready.held.present h.begun
+
       gone-seen : (unit : Units) → seen gone_to ≡ kept_of (after unit)
       gone-seen unit = λ i. record {
         number = s.number;
@@ -300,7 +304,7 @@ module _ {X : Type 0} {dx : extra.Ghosts X} {dw : extra.Ghosts Watchdog} (f : Fu
         where
           begun : q.items ≡ keep_last 33 (s.begun.items ++ begun_for f (life.ran.machine.time - s.machine.machine.time) s.machine.machine)
           begun =
-              ap (λ (b : Buffer Begun). b.items) h.begun
+              ap (λ (b : Buffer Begun). b.items) ring
               ∙ ap (λ (m : Machine (Pair X Watchdog dx dw)). keep_last 33 (s.begun.items ++ begun_for f (m.time - s.machine.machine.time) s.machine.machine)) h.machine
 
       gone-settled : (unit : Units) → standing (settled f deadline_of image drives unit most (last_of late w.machine) (seen gone_to)) ≡ here unit (kept_of (after unit))
@@ -329,9 +333,9 @@ module _ {X : Type 0} {dx : extra.Ghosts X} {dw : extra.Ghosts Watchdog} (f : Fu
         where
           kept : q ≡ buffer (keep_last 33 q.items) 33
           kept =
-              h.begun
+              ring
               ∙ ap (λ xs. buffer xs 33)
-              (sym (last-same 33 (s.begun.items ++ begun_for f (w.machine.time - s.machine.machine.time) s.machine.machine)) ∙ ap (λ (b : Buffer Begun). keep_last 33 b.items) (sym h.begun))
+              (sym (last-same 33 (s.begun.items ++ begun_for f (w.machine.time - s.machine.machine.time) s.machine.machine)) ∙ ap (λ (b : Buffer Begun). keep_last 33 b.items) (sym ring))
 
   -- ---- a command that leaves the machine in its life
 

@@ -29,7 +29,7 @@ use Rattle.kc_debug.specs.declared.past.Past.{Past}
 use Rattle.kc_debug.specs.declared.life.DebuggedLife.{DebuggedLife}
 use Rattle.kc_debug.specs.Activities.{begun_for}
 use Rattle.kc_debug.specs.InLives.{InLife, end_in, in_lives, says, stand_line}
-use Rattle.kc_debug.specs.Passing.{IsKept, Passed}
+use Rattle.kc_debug.specs.Passing.{Passed}
 
 -- ---- what is answered
 
@@ -100,7 +100,7 @@ module _ {X : Type 0} (f : Further X) (deadline : X → Option ℕ) where
     pub by_watchdog : late ≡ (life_for f deadline states m).by_watchdog
     pub how : how_of late n ≡ (life_for f deadline states m).how
     pub machine : n ≡ (life_for f deadline states m).ran.machine
-    pub begun : q ≡ buffer (keep_last 33 (r.items ++ begun_for f (n.time - m.time) m)) 33
+    pub begun : q ≡ buffer (keep_last r.capacity (r.items ++ begun_for f (n.time - m.time) m)) r.capacity
     pub in_time : IsInTime (deadline n.board.units.further) n.time
     pub ran : IfSome n.ended (λ how. HasRun how n.time)
     pub has_run : HasRun (how_of late n) n.time
@@ -134,7 +134,7 @@ over_text how m = line_of (end_line how m)
 -- the activities that finished in earlier lives, 32 at most, and those that have begun in this one, 33 at most
 pub record IsHeld (past : Buffer Past) (begun : Buffer Begun) : Type 0 where
   pub earlier : past ≡ buffer (keep_last 32 past.items) 32
-  pub present : IsKept begun
+  pub present : begun ≡ buffer (keep_last 33 begun.items) 33
 
 -- where the life stands
 abbrev pub standing : {X : Type 0} → InLife X → InLife X

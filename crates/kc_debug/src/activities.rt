@@ -12,13 +12,10 @@ use kc_machine::Machine;
 
 /// An activity: the state in which it began, and the program counter there.
 #[derive(Clone, Copy, Drop)]
-pub(crate) struct Begun {
-    pub(crate) at: StateTime,
-    pub(crate) pc: u16,
+pub struct Begun {
+    pub at: StateTime,
+    pub pc: u16,
 }
-
-/// How many are kept: those that are reported, and one that is under way.
-pub(crate) const KEPT: usize = 33;
 
 /// Notes the activity that begins in the coming state, where none is under way.
 pub(crate) fn note<X: Extra + Drop>(begun: &mut HeapCircularBuffer<Begun>, machine: &Machine<X>)
@@ -45,7 +42,9 @@ pub(crate) fn note_idle<X: Extra + Drop>(
     ensures { begun.new ≡ buffer (keep_last begun.old.capacity (begun.old.items ++ begun_for X.further (end - machine.now.machine.time) machine.now.machine)) begun.old.capacity }
 {
     let pc = machine.pc();
-    let first = machine.now().max(end.saturating_sub(KEPT as u64));
+    let first = machine
+        .now()
+        .max(end.saturating_sub(begun.capacity() as u64));
     for at in first..end {
         begun.push_back(Begun { at, pc });
     }

@@ -1,6 +1,5 @@
 // The commands that let the machine go on.
-ghost use Rattle.std.specs.Prelude.{◌≡◌, ◌==◌, ℕ, ◌+◌, ◌-◌, ◌*◌, ◌<◌, ◌≤◌, max, nat_lt, None, IfOk, OnOk, OnErr, false};
-ghost use Rattle.std.specs.List.{list_any};
+ghost use Rattle.std.specs.Prelude.{◌≡◌, ℕ, ◌+◌, ◌-◌, ◌*◌, ◌<◌, ◌≤◌, max, nat_lt, None, IfOk, OnOk, OnErr, false};
 ghost use Rattle.kc_base.specs.Limits.{max_states};
 ghost use Rattle.kc_trace.specs.Out.{Prints};
 ghost use Rattle.kc_trace.specs.Trace.{out_of};
@@ -8,11 +7,12 @@ ghost use Rattle.kc_machine_spec.specs.Machine.{current};
 ghost use Rattle.kc_machine_spec.specs.Run.{run_for};
 ghost use Rattle.kc_machine.specs.Stepping.{IdlesFor};
 ghost use Rattle.kc_debug.specs.Faults.{ReportsFault};
-ghost use Rattle.kc_debug.specs.Passing.{IsKept, Passed, IsClear, Reported, Stood, Gone, Spends};
+ghost use Rattle.kc_debug.specs.Passing.{AreAtOnce, IsFollowed, IsKept, Passed, IsClear, Reported, Stood, Gone, Spends, SpendsLooking};
 ghost use Rattle.kc_debug.specs.Stands.{FailsWithin};
-ghost use Rattle.kc_debug.specs.Stops.{activity_states, is_at_break as stands_at_break, states_at_once, states_of_activities, states_of_run};
+ghost use Rattle.kc_debug.specs.Stops.{activity_states, states_at_once, states_of_activities, states_until};
 
 use crate::activities::{Begun, note, note_idle};
+use crate::stops::Stops;
 use circular_buffer::HeapCircularBuffer;
 use kc_base::{Sink, StateTime, Steps};
 use kc_extra::Extra;
@@ -131,7 +131,7 @@ fn pass_some<X: Extra + Drop, S: Sink, L: Ledger>(
 
 /// Goes on by so many activities; one that is under way is the first. After a fault of the sink the machine stands at the end of
 /// the activity in whose lines that was.
-pub(crate) fn step<X: Extra + Drop, S: Sink, L: Ledger>(
+pub fn step<X: Extra + Drop, S: Sink, L: Ledger>(
     begun: &mut HeapCircularBuffer<Begun>,
     count: u32,
     machine: &mut Machine<X>,
@@ -146,7 +146,7 @@ pub(crate) fn step<X: Extra + Drop, S: Sink, L: Ledger>(
     ensures fails { OnErr result (FailsWithin X.further activity_states (states_of_activities X.further count machine.old.machine) machine.old.machine (out_of S.written S.faults out.old) machine.new.machine (out_of S.written S.faults out.new)) }
     ensures spent { Spends X.further (states_of_activities X.further count machine.old.machine) machine.old steps.old machine.new steps.new }
     ensures time { machine.new.machine.time ≤ machine.old.machine.time + 255 * count }
-    ensures capacity { begun.new.capacity ≡ 33 }
+    ensures capacity { begun.new.capacity ≡ begun.old.capacity }
     ensures fault { ReportsFault result out.new.failed }
 {
     let mut left = count;
@@ -158,23 +158,6 @@ pub(crate) fn step<X: Extra + Drop, S: Sink, L: Ledger>(
         left -= passed;
     }
     Ok(())
-}
-
-fn is_break(breaks: &[u16], addr: u16) -> bool
-    ensures { result ≡ list_any (λ b. b == addr) breaks.now }
-{
-    breaks.iter().any(|b| *b == addr)
-}
-
-/// Whether an activity would start at a breakpoint.
-pub(crate) fn is_at_break<X: Extra + Drop>(breaks: &[u16], machine: &Machine<X>) -> bool
-    ensures { result ≡ stands_at_break breaks.now machine.now.machine }
-{
-    if machine.between() {
-        is_break(breaks, machine.pc())
-    } else {
-        false
-    }
 }
 
 // Whether the state `until` is nearer than the end of an activity may be.
@@ -209,24 +192,28 @@ fn pass_one<X: Extra + Drop, S: Sink, L: Ledger>(
     }
 }
 
-// Up to where the machine idles and no activity starts at a breakpoint; the present state where that is not so.
-fn idle_end<X: Extra + Drop>(breaks: &[u16], until: StateTime, machine: &Machine<X>) -> StateTime
+// Up to where the machine idles and nothing stops the run; the present state where that is not so.
+fn idle_end<X: Extra + Drop, S: Sink, T: Stops<X, S>>(
+    stops: &T,
+    until: StateTime,
+    machine: &Machine<X>,
+) -> StateTime
     ensures from { machine.now.machine.time ≤ result }
     ensures within { result ≤ max until machine.now.machine.time }
     ensures idles { IdlesFor X.further (result - machine.now.machine.time) machine.now.machine }
-    ensures clear { IsClear X.further breaks.now (result - machine.now.machine.time) machine.now.machine }
+    ensures clear { IsClear X.further (T.stopping stops.now) (result - machine.now.machine.time) machine.now.machine }
 {
-    if is_break(breaks, machine.pc()) {
-        machine.now()
-    } else {
+    if stops.passes_idle(machine) {
         machine.idles_to(until)
+    } else {
+        machine.now()
     }
 }
 
 /// Goes on to the end of an activity, or over idle states, or by one state where the state `until` is near.
-pub(crate) fn pass<X: Extra + Drop, S: Sink, L: Ledger>(
+pub(crate) fn pass<X: Extra + Drop, S: Sink, L: Ledger, T: Stops<X, S>>(
     begun: &mut HeapCircularBuffer<Begun>,
-    breaks: &[u16],
+    stops: &T,
     until: StateTime,
     machine: &mut Machine<X>,
     out: &mut TraceOut<S>,
@@ -237,11 +224,11 @@ pub(crate) fn pass<X: Extra + Drop, S: Sink, L: Ledger>(
     requires ahead { machine.old.machine.time < until }
     requires room { until ≤ 2 * max_states }
     requires unbroken { out.old.failed ≡ false }
-    ensures passed { (states : ℕ) × (states ≤ until - machine.old.machine.time) × IsClear X.further breaks.now states machine.old.machine × Reported X.further states machine.old.machine (out_of S.written S.faults out.old) begun.old (out_of S.written S.faults out.new) begun.new × OnErr result (FailsWithin X.further (states_at_once until) states machine.old.machine (out_of S.written S.faults out.old) machine.new.machine (out_of S.written S.faults out.new)) × Spends X.further states machine.old steps.old machine.new steps.new × OnOk result (Stood X.further states machine.old.machine machine.new.machine) }
+    ensures passed { (states : ℕ) × (states ≤ until - machine.old.machine.time) × IsClear X.further (T.stopping stops.now) states machine.old.machine × AreAtOnce X.further states machine.old.machine × Reported X.further states machine.old.machine (out_of S.written S.faults out.old) begun.old (out_of S.written S.faults out.new) begun.new × OnErr result (FailsWithin X.further (states_at_once until) states machine.old.machine (out_of S.written S.faults out.old) machine.new.machine (out_of S.written S.faults out.new)) × Spends X.further states machine.old steps.old machine.new steps.new × OnOk result (Stood X.further states machine.old.machine machine.new.machine) }
     ensures within { machine.new.machine.time ≤ until }
     ensures fault { ReportsFault result out.new.failed }
 {
-    let end = idle_end(breaks, until, machine);
+    let end = idle_end(stops, until, machine);
     if machine.now() < end {
         pass_idle(begun, end, machine, out, steps)
     } else {
@@ -249,33 +236,37 @@ pub(crate) fn pass<X: Extra + Drop, S: Sink, L: Ledger>(
     }
 }
 
-/// Goes on to a state, or to where an activity would start at a breakpoint. After a fault of the sink the machine stands at the
+/// Goes on to a state, or to the end of the first activity that stops it. After a fault of the sink the machine stands at the
 /// end of the activity in whose lines that was, or of the state where `until` is less than 255 states away.
-pub(crate) fn go<X: Extra + Drop, S: Sink, L: Ledger>(
+pub fn go<X: Extra + Drop, S: Sink, L: Ledger, T: Stops<X, S>>(
     begun: &mut HeapCircularBuffer<Begun>,
-    breaks: &[u16],
+    stops: &mut T,
     until: StateTime,
     machine: &mut Machine<X>,
     out: &mut TraceOut<S>,
     steps: &mut Steps<L>,
 ) -> Result<(), WriteFault>
+    requires ready { T.Ready stops.old (out_of S.written S.faults out.old) }
     requires kept { IsKept begun.old }
     requires room { until ≤ 2 * max_states }
     requires unbroken { out.old.failed ≡ false }
-    ensures lines { Prints (out_of S.written S.faults out.old) (run_for X.further (states_of_run X.further breaks.now until machine.old.machine) machine.old.machine).records (out_of S.written S.faults out.new) }
-    ensures gone { OnOk result (Gone X.further (states_of_run X.further breaks.now until machine.old.machine) machine.old.machine begun.old machine.new.machine begun.new) }
-    ensures fails { OnErr result (FailsWithin X.further (states_at_once until) (states_of_run X.further breaks.now until machine.old.machine) machine.old.machine (out_of S.written S.faults out.old) machine.new.machine (out_of S.written S.faults out.new)) }
-    ensures spent { Spends X.further (states_of_run X.further breaks.now until machine.old.machine) machine.old steps.old machine.new steps.new }
+    ensures lines { Prints (out_of S.written S.faults out.old) (run_for X.further (states_until X.further (T.stopping stops.old) until machine.old.machine) machine.old.machine).records (out_of S.written S.faults out.new) }
+    ensures gone { OnOk result (Gone X.further (states_until X.further (T.stopping stops.old) until machine.old.machine) machine.old.machine begun.old machine.new.machine begun.new) }
+    ensures fails { OnErr result (FailsWithin X.further (states_at_once until) (states_until X.further (T.stopping stops.old) until machine.old.machine) machine.old.machine (out_of S.written S.faults out.old) machine.new.machine (out_of S.written S.faults out.new)) }
+    ensures spent { SpendsLooking X.further (T.looks stops.old) (states_until X.further (T.stopping stops.old) until machine.old.machine) machine.old steps.old machine.new steps.new }
+    ensures stops { T.settings stops.new ≡ T.settings stops.old }
+    ensures followed { OnOk result (IsFollowed X.further (λ states. T.Follows stops.new machine.old.machine (out_of S.written S.faults out.old) states) (machine.new.machine.time - machine.old.machine.time) machine.old.machine) }
     ensures time { machine.new.machine.time ≤ max until machine.old.machine.time }
-    ensures capacity { begun.new.capacity ≡ 33 }
+    ensures capacity { begun.new.capacity ≡ begun.old.capacity }
     ensures fault { ReportsFault result out.new.failed }
 {
+    stops.begin(machine, out, steps);
     while machine.now() < until {
         if machine.ended().is_some() {
             return Ok(());
         }
-        pass(begun, breaks, until, machine, out, steps)?;
-        if is_at_break(breaks, machine) {
+        pass(begun, stops, until, machine, out, steps)?;
+        if stops.are_met(machine, out, steps) {
             return Ok(());
         }
     }

@@ -51,7 +51,7 @@ fn first_life<M: Maker>(
 {
     let machine = born(alloc, lives.image, lives.stimuli, lives.maker, 0)?;
     let past = first_past(alloc)?;
-    let begun = first_begun(alloc)?;
+    let begun = first_begun(alloc, REPORTED)?;
     Ok(DebuggedLife {
         number: 1,
         from: 0,

@@ -12,8 +12,16 @@ mod living;
 mod past;
 mod session;
 mod showing;
+mod stops;
 
+pub use activities::Begun;
+pub use carrying::{go, step};
 pub use in_lives::{Lives, debug_lives};
 pub use kc_debug_script::{DebugFault, LineMap, Script};
 pub use kc_machine::End;
-pub use session::Session;
+pub use lines::{activity_fields, stand_line, stand_line_in_life};
+pub use living::{go_in_life, step_in_life};
+pub use past::{Past, count_finished, keep_finished, report_earlier, report_present};
+pub use session::{Session, first_begun};
+pub use showing::{REPORTED, report_history, report_place, show};
+pub use stops::{Breaks, Stops};

@@ -21,6 +21,7 @@ use crate::lines::stand_line_in_life;
 use crate::living::{go_in_life, step_in_life};
 use crate::past::{Past, count_finished, keep_finished, report_earlier, report_present};
 use crate::showing::{REPORTED, show};
+use crate::stops::Breaks;
 use arrayvec::ArrayVec;
 use circular_buffer::HeapCircularBuffer;
 use kc_base::{MAX_STATES, NoMemory, Sink, StateTime, Steps};
@@ -288,9 +289,11 @@ fn go<M: Maker, S: Sink, L: Ledger>(
     if life.over.is_some() {
         return report_stand(life, out);
     }
+    let addresses = life.breaks.as_slice();
+    let mut stops = Breaks { addresses };
     match go_in_life(
         &mut life.begun,
-        life.breaks.as_slice(),
+        &mut stops,
         until,
         &mut life.machine,
         out,

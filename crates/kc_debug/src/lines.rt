@@ -22,7 +22,7 @@ fn put_state(line: &mut LineBytes, at: StateTime, pc: u16)
 }
 
 /// The line of where a machine stands.
-pub(crate) fn stand_line<X: Extra + Drop>(machine: &Machine<X>) -> LineBytes
+pub fn stand_line<X: Extra + Drop>(machine: &Machine<X>) -> LineBytes
     ensures { result.items ≡ line_of_stand machine.now.machine }
 {
     let mut line = ArrayVec::new();
@@ -33,7 +33,7 @@ pub(crate) fn stand_line<X: Extra + Drop>(machine: &Machine<X>) -> LineBytes
 }
 
 /// The line of an activity, without its source line and its end.
-pub(crate) fn activity_fields(begun: &Begun) -> LineBytes
+pub fn activity_fields(begun: &Begun) -> LineBytes
     ensures fields { result.items ≡ codes "A " ++ state_fields begun.now.at begun.now.pc }
     ensures short { array_vec_len result ≤ 30 }
 {
@@ -44,7 +44,7 @@ pub(crate) fn activity_fields(begun: &Begun) -> LineBytes
 }
 
 /// The line of where a machine stands in the life of this number.
-pub(crate) fn stand_line_in_life<X: Extra + Drop>(machine: &Machine<X>, life: u16) -> LineBytes
+pub fn stand_line_in_life<X: Extra + Drop>(machine: &Machine<X>, life: u16) -> LineBytes
     ensures { result.items ≡ line_of_stand_in_life life machine.now.machine }
 {
     let mut line = ArrayVec::new();

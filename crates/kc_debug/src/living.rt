@@ -1,6 +1,7 @@
 // Going on in one life of a board with a watchdog: by activities, or to a state or a breakpoint, and no further than to the deadline.
-ghost use Rattle.std.specs.Prelude.{◌≡◌, ◌*◌, ◌+◌, ◌<◌, ◌≤◌, max, None, IfOk, IfSome, false};
+ghost use Rattle.std.specs.Prelude.{◌≡◌, ◌*◌, ◌+◌, ◌-◌, ◌<◌, ◌≤◌, max, None, IfOk, IfSome, OnOk, false};
 ghost use Rattle.kc_base.specs.Limits.{max_states};
+ghost use Rattle.kc_trace.specs.Counting.{counted_all};
 ghost use Rattle.kc_trace.specs.Out.{Puts};
 ghost use Rattle.kc_trace.specs.Text.{text_of};
 ghost use Rattle.kc_trace.specs.Trace.{out_of};
@@ -9,11 +10,12 @@ ghost use Rattle.kc_cycles.specs.Life.{life_for};
 ghost use Rattle.kc_cycles.specs.Making.{deadline_of};
 ghost use Rattle.kc_debug.specs.Debugging.{is_before, HasLived, IsAhead, IsInTime, PassesInLife};
 ghost use Rattle.kc_debug.specs.Faults.{ReportsFault};
-ghost use Rattle.kc_debug.specs.Passing.{IsKept};
-ghost use Rattle.kc_debug.specs.Stops.{states_of_activities, states_of_run};
+ghost use Rattle.kc_debug.specs.Passing.{IsFollowed, IsKept};
+ghost use Rattle.kc_debug.specs.Stops.{states_of_activities, states_until};
 
 use crate::activities::Begun;
-use crate::carrying::{is_at_break, pass, pass_activity, pass_state};
+use crate::carrying::{pass, pass_activity, pass_state};
+use crate::stops::Stops;
 use circular_buffer::HeapCircularBuffer;
 use kc_base::{Sink, StateTime, Steps};
 use kc_cycles::{Watchdog, deadline_in, has_come, span_end};
@@ -72,7 +74,7 @@ fn pass_in_life<X: Extra + Drop, S: Sink, L: Ledger>(
 }
 
 /// Goes on by so many activities of a life; answers whether the watchdog resets the chip before they are over.
-pub(crate) fn step_in_life<X: Extra + Drop, S: Sink, L: Ledger>(
+pub fn step_in_life<X: Extra + Drop, S: Sink, L: Ledger>(
     begun: &mut HeapCircularBuffer<Begun>,
     count: u32,
     machine: &mut Machine<Pair<X, Watchdog>>,
@@ -87,6 +89,7 @@ pub(crate) fn step_in_life<X: Extra + Drop, S: Sink, L: Ledger>(
     ensures lines { Puts (out_of S.written S.faults out.old) (text_of (life_for ⟦<Pair<X, Watchdog> as Extra>⟧.further deadline_of (states_of_activities ⟦<Pair<X, Watchdog> as Extra>⟧.further count machine.old.machine) machine.old.machine).ran.records) (out_of S.written S.faults out.new) }
     ensures lived { IfOk result (λ late. HasLived ⟦<Pair<X, Watchdog> as Extra>⟧.further deadline_of (states_of_activities ⟦<Pair<X, Watchdog> as Extra>⟧.further count machine.old.machine) machine.old.machine begun.old late machine.new.machine begun.new) }
     ensures time { machine.new.machine.time ≤ machine.old.machine.time + 255 * count }
+    ensures capacity { begun.new.capacity ≡ begun.old.capacity }
     ensures fault { ReportsFault result out.new.failed }
 {
     let mut left = count;
@@ -104,26 +107,32 @@ pub(crate) fn step_in_life<X: Extra + Drop, S: Sink, L: Ledger>(
     Ok(false)
 }
 
-/// Goes on to a state of a life, or to where an activity would start at a breakpoint; answers whether the watchdog resets the chip
+/// Goes on to a state of a life, or to the end of the first activity that stops it; answers whether the watchdog resets the chip
 /// before.
-pub(crate) fn go_in_life<X: Extra + Drop, S: Sink, L: Ledger>(
+pub fn go_in_life<X: Extra + Drop, S: Sink, L: Ledger, T: Stops<Pair<X, Watchdog>, S>>(
     begun: &mut HeapCircularBuffer<Begun>,
-    breaks: &[u16],
+    stops: &mut T,
     until: StateTime,
     machine: &mut Machine<Pair<X, Watchdog>>,
     out: &mut TraceOut<S>,
     steps: &mut Steps<L>,
 ) -> Result<bool, WriteFault>
+    requires ready { T.Ready stops.old (out_of S.written S.faults out.old) }
     requires kept { IsKept begun.old }
     requires in_time { IsInTime (deadline_of machine.old.machine.board.units.further) machine.old.machine.time }
     requires ran { IfSome machine.old.machine.ended (λ how. HasRun how machine.old.machine.time) }
     requires room { until ≤ 2 * max_states }
     requires unbroken { out.old.failed ≡ false }
-    ensures lines { Puts (out_of S.written S.faults out.old) (text_of (life_for ⟦<Pair<X, Watchdog> as Extra>⟧.further deadline_of (states_of_run ⟦<Pair<X, Watchdog> as Extra>⟧.further breaks.now until machine.old.machine) machine.old.machine).ran.records) (out_of S.written S.faults out.new) }
-    ensures lived { IfOk result (λ late. HasLived ⟦<Pair<X, Watchdog> as Extra>⟧.further deadline_of (states_of_run ⟦<Pair<X, Watchdog> as Extra>⟧.further breaks.now until machine.old.machine) machine.old.machine begun.old late machine.new.machine begun.new) }
+    ensures lines { Puts (out_of S.written S.faults out.old) (text_of (life_for ⟦<Pair<X, Watchdog> as Extra>⟧.further deadline_of (states_until ⟦<Pair<X, Watchdog> as Extra>⟧.further (T.stopping stops.old) until machine.old.machine) machine.old.machine).ran.records) (out_of S.written S.faults out.new) }
+    ensures lived { IfOk result (λ late. HasLived ⟦<Pair<X, Watchdog> as Extra>⟧.further deadline_of (states_until ⟦<Pair<X, Watchdog> as Extra>⟧.further (T.stopping stops.old) until machine.old.machine) machine.old.machine begun.old late machine.new.machine begun.new) }
+    ensures counts { OnOk result (out.new.counts ≡ counted_all (life_for ⟦<Pair<X, Watchdog> as Extra>⟧.further deadline_of (states_until ⟦<Pair<X, Watchdog> as Extra>⟧.further (T.stopping stops.old) until machine.old.machine) machine.old.machine).ran.records out.old.counts) }
+    ensures stops { T.settings stops.new ≡ T.settings stops.old }
+    ensures followed { OnOk result (IsFollowed ⟦<Pair<X, Watchdog> as Extra>⟧.further (λ states. T.Follows stops.new machine.old.machine (out_of S.written S.faults out.old) states) (machine.new.machine.time - machine.old.machine.time) machine.old.machine) }
     ensures time { machine.new.machine.time ≤ max until machine.old.machine.time }
+    ensures capacity { begun.new.capacity ≡ begun.old.capacity }
     ensures fault { ReportsFault result out.new.failed }
 {
+    stops.begin(machine, out, steps);
     while machine.now() < until {
         if machine.ended().is_some() {
             return Ok(false);
@@ -134,8 +143,8 @@ pub(crate) fn go_in_life<X: Extra + Drop, S: Sink, L: Ledger>(
             return Ok(true);
         }
         let stop = span_end(now, deadline, until);
-        pass(begun, breaks, stop, machine, out, steps)?;
-        if is_at_break(breaks, machine) {
+        pass(begun, stops, stop, machine, out, steps)?;
+        if stops.are_met(machine, out, steps) {
             return Ok(false);
         }
     }

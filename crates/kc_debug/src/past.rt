@@ -16,13 +16,13 @@ use kc_trace::TraceOut;
 
 /// An activity that has finished in the life of this number.
 #[derive(Clone, Copy, Drop)]
-pub(crate) struct Past {
-    pub(crate) life: u16,
-    pub(crate) begun: Begun,
+pub struct Past {
+    pub life: u16,
+    pub begun: Begun,
 }
 
 /// How many of so many activities have finished: where one is under way, it is the last that began.
-pub(crate) fn count_finished(begun: usize, between: bool) -> usize
+pub fn count_finished(begun: usize, between: bool) -> usize
     ensures count { result ≡ (if between then begun else begun - 1) }
     ensures few { result ≤ begun }
 {
@@ -34,7 +34,7 @@ pub(crate) fn count_finished(begun: usize, between: bool) -> usize
 }
 
 /// Keeps the first activities of a life, as many as have finished, for the lives that follow.
-pub(crate) fn keep_finished(
+pub fn keep_finished(
     past: &mut HeapCircularBuffer<Past>,
     life: u16,
     begun: &HeapCircularBuffer<Begun>,
@@ -66,7 +66,7 @@ fn report_past<S: Sink>(lines: &LineMap, past: &Past, out: &mut TraceOut<S>)
 }
 
 /// Reports the activities of earlier lives from one on, oldest first.
-pub(crate) fn report_earlier<S: Sink>(
+pub fn report_earlier<S: Sink>(
     lines: &LineMap,
     past: &HeapCircularBuffer<Past>,
     first: usize,
@@ -83,7 +83,7 @@ pub(crate) fn report_earlier<S: Sink>(
 }
 
 /// Reports the activities of a life from one on, of those that have finished, oldest first.
-pub(crate) fn report_present<S: Sink>(
+pub fn report_present<S: Sink>(
     lines: &LineMap,
     life: u16,
     begun: &HeapCircularBuffer<Begun>,

@@ -1,5 +1,5 @@
 // Sessions: a script that is carried out over a machine.
-ghost use Rattle.std.specs.Prelude.{◌≡◌, ◌+◌, ◌*◌, ◌<◌, ◌≤◌, max, [], ◌∷◌, length, drop, count_by, IfOk, IfErr, OnOk, OnErr, false, true};
+ghost use Rattle.std.specs.Prelude.{◌≡◌, ◌+◌, ◌*◌, ◌<◌, ◌≤◌, max, [], ◌∷◌, ◌++◌, length, drop, count_by, IfOk, IfErr, OnOk, OnErr, false, true};
 ghost use Rattle.kc_base.specs.Limits.{max_states};
 ghost use Rattle.circular_buffer.specs.Buffer.{buffer, keep_last};
 ghost use Rattle.kc_trace.specs.Out.{Puts};
@@ -8,15 +8,17 @@ ghost use Rattle.kc_debug_script.specs.Commands.{IsBounded};
 ghost use Rattle.kc_debug_script.specs.declared.fault.DebugFault.TheVariants as faults;
 ghost use Rattle.kc_debug_script.specs.Script.{is_break, AreBounded};
 ghost use Rattle.kc_debug.specs.Faults.{ReportsFault};
-ghost use Rattle.kc_debug.specs.Passing.{IsKept, Gone, Spends};
+ghost use Rattle.kc_debug.specs.Activities.{begun_for};
+ghost use Rattle.kc_debug.specs.Passing.{Gone, Spends};
 ghost use Rattle.kc_debug.specs.Stops.{activity_states, states_at_once, states_of_activities, states_of_run};
 ghost use Rattle.kc_debug.specs.Transcript.{after_command, gone_for, quits, transcript, untouched};
 ghost use Rattle.kc_debug.specs.Sitting.{seen};
 ghost use Rattle.kc_debug.specs.Stands.{at_once_in, bytes_of, bytes_shown, states_of, touch_in, touch_of, FailsIn, StandsIn};
 
-use crate::activities::{Begun, KEPT};
+use crate::activities::Begun;
 use crate::carrying::{go, step};
-use crate::showing::{report_history, report_stand, show};
+use crate::showing::{REPORTED, report_history, report_stand, show};
+use crate::stops::Breaks;
 use arrayvec::ArrayVec;
 use circular_buffer::HeapCircularBuffer;
 use kc_base::{NoMemory, Sink, StateTime, Steps};
@@ -53,10 +55,12 @@ impl Model for Session {
     ghost invariant = { λ s. s.sitting.begun.capacity ≡ 33 };
 }
 
-pub(crate) fn first_begun(alloc: Global) -> Result<HeapCircularBuffer<Begun>, NoMemory>
-    ensures { IfOk result (λ begun. begun ≡ buffer [] 33) }
+/// No activity, with room for as many as are reported and for one that is under way.
+pub fn first_begun(alloc: Global, reported: usize) -> Result<HeapCircularBuffer<Begun>, NoMemory>
+    requires { reported ≤ 4096 }
+    ensures { IfOk result (λ begun. begun ≡ buffer [] (reported + 1)) }
 {
-    let begun = HeapCircularBuffer::with_capacity(alloc, KEPT)?;
+    let begun = HeapCircularBuffer::with_capacity(alloc, reported + 1)?;
     Ok(begun)
 }
 
@@ -86,11 +90,12 @@ impl Sitting {
         out: &mut TraceOut<S>,
         steps: &mut Steps<L>,
     ) -> Result<(), WriteFault>
-        requires kept { IsKept self.old.begun }
+        requires kept { self.old.begun ≡ buffer (keep_last 33 self.old.begun.items) 33 }
         requires room { machine.old.machine.time + 255 * count ≤ 2 * max_states }
         requires unbroken { out.old.failed ≡ false }
         ensures text { Puts (out_of S.written S.faults out.old) (gone_for X.further (states_of_activities X.further count machine.old.machine) (seen machine.old.machine self.old)).text (out_of S.written S.faults out.new) }
         ensures gone { OnOk result (Gone X.further (states_of_activities X.further count machine.old.machine) machine.old.machine self.old.begun machine.new.machine self.new.begun) }
+        ensures begun { OnOk result (self.new.begun ≡ buffer (keep_last 33 (self.old.begun.items ++ begun_for X.further (states_of_activities X.further count machine.old.machine) machine.old.machine)) 33) }
         ensures fails { OnErr result (FailsIn X.further activity_states (states_of_activities X.further count machine.old.machine) (gone_for X.further (states_of_activities X.further count machine.old.machine) (seen machine.old.machine self.old)).text machine.old.machine (out_of S.written S.faults out.old) machine.new.machine (out_of S.written S.faults out.new)) }
         ensures spent { Spends X.further (states_of_activities X.further count machine.old.machine) machine.old steps.old machine.new steps.new }
         ensures time { machine.new.machine.time ≤ machine.old.machine.time + 255 * count }
@@ -111,11 +116,12 @@ impl Sitting {
         out: &mut TraceOut<S>,
         steps: &mut Steps<L>,
     ) -> Result<(), WriteFault>
-        requires kept { IsKept self.old.begun }
+        requires kept { self.old.begun ≡ buffer (keep_last 33 self.old.begun.items) 33 }
         requires room { until ≤ 2 * max_states }
         requires unbroken { out.old.failed ≡ false }
         ensures text { Puts (out_of S.written S.faults out.old) (gone_for X.further (states_of_run X.further self.old.breaks.items until machine.old.machine) (seen machine.old.machine self.old)).text (out_of S.written S.faults out.new) }
         ensures gone { OnOk result (Gone X.further (states_of_run X.further self.old.breaks.items until machine.old.machine) machine.old.machine self.old.begun machine.new.machine self.new.begun) }
+        ensures begun { OnOk result (self.new.begun ≡ buffer (keep_last 33 (self.old.begun.items ++ begun_for X.further (states_of_run X.further self.old.breaks.items until machine.old.machine) machine.old.machine)) 33) }
         ensures fails { OnErr result (FailsIn X.further (states_at_once until) (states_of_run X.further self.old.breaks.items until machine.old.machine) (gone_for X.further (states_of_run X.further self.old.breaks.items until machine.old.machine) (seen machine.old.machine self.old)).text machine.old.machine (out_of S.written S.faults out.old) machine.new.machine (out_of S.written S.faults out.new)) }
         ensures spent { Spends X.further (states_of_run X.further self.old.breaks.items until machine.old.machine) machine.old steps.old machine.new steps.new }
         ensures time { machine.new.machine.time ≤ max until machine.old.machine.time }
@@ -124,14 +130,9 @@ impl Sitting {
         ensures fault { ReportsFault result out.new.failed }
     {
         let before = machine.ended();
-        go(
-            &mut self.begun,
-            self.breaks.as_slice(),
-            until,
-            machine,
-            out,
-            steps,
-        )?;
+        let addresses = self.breaks.as_slice();
+        let mut stops = Breaks { addresses };
+        go(&mut self.begun, &mut stops, until, machine, out, steps)?;
         report_stand(before, machine, out)
     }
 
@@ -145,7 +146,7 @@ impl Sitting {
         steps: &mut Steps<L>,
     ) -> Result<(), WriteFault>
         requires bounded { IsBounded command }
-        requires kept { IsKept self.old.begun }
+        requires kept { self.old.begun ≡ buffer (keep_last 33 self.old.begun.items) 33 }
         requires few { length self.old.breaks.items + count_by is_break (command ∷ []) ≤ 16 }
         requires room { machine.old.machine.time + 255000000 ≤ 2 * max_states }
         requires unbroken { out.old.failed ≡ false }
@@ -227,7 +228,7 @@ impl Session {
         ensures lines { IfOk result (λ session. session ≡ lines) }
         ensures fault { IfErr result (λ fault. fault ≡ faults.NoMemory) }
     {
-        let begun = first_begun(alloc)?;
+        let begun = first_begun(alloc, REPORTED)?;
         let breaks = ArrayVec::new();
         Ok(Session {
             lines,

@@ -21,7 +21,7 @@ use kc_machine::{End, Machine, WriteFault};
 use kc_trace::TraceOut;
 
 /// How many activities are reported.
-pub(crate) const REPORTED: usize = 32;
+pub const REPORTED: usize = 32;
 
 // Reports the end, where the machine lived before.
 fn report_end<X: Extra + Drop, S: Sink>(
@@ -60,7 +60,7 @@ pub(crate) fn report_stand<X: Extra + Drop, S: Sink>(
 }
 
 /// Shows so many bytes from an address on.
-pub(crate) fn show<X: Extra + Drop, S: Sink>(
+pub fn show<X: Extra + Drop, S: Sink>(
     machine: &mut Machine<X>,
     from: u16,
     count: u16,
@@ -81,7 +81,7 @@ pub(crate) fn show<X: Extra + Drop, S: Sink>(
 }
 
 /// Reports the source line of an address, where there is one.
-pub(crate) fn report_place<S: Sink>(lines: &LineMap, addr: u16, out: &mut TraceOut<S>)
+pub fn report_place<S: Sink>(lines: &LineMap, addr: u16, out: &mut TraceOut<S>)
     ensures { Puts (out_of S.written S.faults out.old) (source_place (entry_at lines.now addr)) (out_of S.written S.faults out.new) }
 {
     match lines.find(addr) {
@@ -104,7 +104,7 @@ fn report_activity<S: Sink>(lines: &LineMap, begun: &Begun, out: &mut TraceOut<S
 }
 
 /// Reports the last activities that have finished, oldest first.
-pub(crate) fn report_history<X: Extra + Drop, S: Sink>(
+pub fn report_history<X: Extra + Drop, S: Sink>(
     lines: &LineMap,
     begun: &HeapCircularBuffer<Begun>,
     machine: &Machine<X>,

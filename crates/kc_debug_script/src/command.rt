@@ -30,15 +30,17 @@ pub enum Command {
 const STEP_LIMIT: u64 = 1_000_000;
 
 /// The most bytes that one command shows.
-const SHOW_LIMIT: u64 = 256;
+pub const SHOW_LIMIT: u64 = 256;
 
-fn is_writable(addr: u16) -> bool
+/// Whether commands may write the byte at an address: 0018H or above, and neither 1FFEH nor 1FFFH.
+pub fn is_writable(addr: u16) -> bool
     ensures { result ≡ may_be_written addr }
 {
     0x18 <= addr && !(HOLE_START..IMAGE_START).contains(&addr)
 }
 
-fn letter_alone(letter: u8) -> Option<Command>
+/// The command that is a letter alone, if it is one.
+pub fn letter_alone(letter: u8) -> Option<Command>
     ensures { result ≡ alone letter }
 {
     match letter {
@@ -49,14 +51,16 @@ fn letter_alone(letter: u8) -> Option<Command>
     }
 }
 
-fn go(fields: &[u8]) -> Option<Command>
+/// The run to a state that stands behind `g`, if it is one.
+pub fn go(fields: &[u8]) -> Option<Command>
     ensures value { result ≡ with_fields 103 fields.now }
     ensures bounded { IfSome result IsBounded }
 {
     Some(Command::Go(number(fields, MAX_STATES)?))
 }
 
-fn step(fields: &[u8]) -> Option<Command>
+/// The activities that stand behind `s`, if it is a number of them.
+pub fn step(fields: &[u8]) -> Option<Command>
     ensures value { result ≡ with_fields 115 fields.now }
     ensures bounded { IfSome result IsBounded }
 {

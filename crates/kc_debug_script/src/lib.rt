@@ -10,7 +10,7 @@ mod laws;
 mod line_map;
 mod script;
 
-pub use command::Command;
+pub use command::{Command, SHOW_LIMIT, go, is_writable, letter_alone, step};
 pub use fault::DebugFault;
 pub use fields::{is_named, number};
 pub use laws::{

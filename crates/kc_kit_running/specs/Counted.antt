@@ -16,7 +16,7 @@ use Rattle.kc_kit_running.specs.Sources.{no_lines}
 -- ---- what is known of such a run: how many pin edges, entries and cycles of the transfer server it has, and its end
 
 abbrev pub no_counts : Counts
-no_counts = record { pins = 0; entries = 0; cycles = 0 }
+no_counts = record { pins = 0; entries = 0; cycles = 0; edges = 0 }
 
 abbrev pub numbered : List ℕ → ℕ → List ℕ
 numbered word number = word ++ codes " " ++ decimal number ++ codes "\n"

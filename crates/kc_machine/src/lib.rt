@@ -10,6 +10,7 @@ mod common;
 mod ending;
 mod finals;
 mod lent;
+mod looking;
 mod machine;
 mod noted;
 mod over;

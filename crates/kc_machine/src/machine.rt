@@ -1,10 +1,13 @@
-ghost use Rattle.std.specs.Prelude.{◌≡◌, ◌≤◌, ◌<◌, ◌+◌, ◌-◌, ◌*◌, ◌%◌, ◌↔◌, ℕ, None, IfOk, OnOk, OnErr, IsTrue, false, true, max, vec_len, bit_xor};
+ghost use Rattle.std.specs.Prelude.{◌≡◌, ◌≤◌, ◌<◌, ◌+◌, ◌-◌, ◌*◌, ◌%◌, ◌↔◌, ℕ, None, IfOk, OnOk, OnErr, IsTrue, false, true, max, vec_len, slice_get, bit_xor};
 ghost use Rattle.kc_base.specs.Limits.{max_states};
 ghost use Rattle.kc_trace.specs.Counting.{counted_all};
 ghost use Rattle.kc_trace.specs.Out.{Prints, Puts};
 ghost use Rattle.kc_trace.specs.Text.{line_of, text_of};
 ghost use Rattle.kc_exec_spec.specs.Memory.{IsMemory, is_hole};
-ghost use Rattle.kc_block_spec.specs.Levels.{stimulated_before};
+ghost use Rattle.kc_hsi.specs.Input.{holding_of};
+ghost use Rattle.kc_block_spec.specs.Levels.{printed, stimulated_before};
+ghost use Rattle.kc_block_spec.specs.Looking.{levels_shown, looked};
+ghost use Rattle.kc_block_sfr.specs.Holding.{IsEntryDue, entry_due};
 ghost use Rattle.kc_block_spec.specs.Touch.{block_rule};
 ghost use Rattle.kc_block_units.specs.Next.{IsDueOrLast};
 ghost use Rattle.kc_block_units.specs.Scheduler.{further_goes};
@@ -26,9 +29,11 @@ use crate::common::Common;
 use crate::finals::{put_end, put_finals, put_state, word};
 use crate::parts::Core;
 use kc_base::{Image, IntSet, NoMemory, Sink, StateTime, Steps};
-use kc_block::Block;
+use kc_block::{Block, Window};
 use kc_exec_spec::Cpu;
 use kc_extra::Extra;
+use kc_hsi::Entry as HsiEntry;
+use kc_hso::cam::{Entry as HsoEntry, Held};
 use kc_intc::Requests;
 use kc_machine_spec::{End, UnderWay};
 use kc_stim::Stimuli;
@@ -288,6 +293,74 @@ impl<X: Extra + Drop> Machine<X> {
         ensures moves { self.new.moves ≤ self.old.moves + 1 }
     {
         self.core.peek(addr)
+    }
+
+    /// What a byte read of a register below 0018H would give at the start of the present state in a window, without any effect: each
+    /// half of a word register, and 0 where a read is undefined. The further unit may be moved for it, once.
+    pub fn look(&mut self, window: Window, sfr: u8) -> u8
+        requires { sfr < 24 }
+        ensures value { result ≡ looked X.further self.old.machine.time window self.old.machine.board.units sfr }
+        ensures same { self.new.machine ≡ self.old.machine }
+        ensures moves { self.new.moves ≤ self.old.moves + 1 }
+    {
+        self.core.look(window, sfr)
+    }
+
+    /// What stands in the eight slots of HSO at the start of the present state. HSO may be moved for it, once.
+    pub fn hso_slots(&mut self) -> [Option<HsoEntry>; 8]
+        ensures slots { result ≡ self.old.machine.board.units.hso.slots }
+        ensures same { self.new.machine ≡ self.old.machine }
+        ensures moves { self.new.moves ≤ self.old.moves + 1 }
+    {
+        self.core.hso_slots()
+    }
+
+    /// The state in which the entry of a slot of HSO fires, as long as nothing is written, no other entry changes Timer 2, and that
+    /// goes on by its inner clock alone; None where it never does so, or none stands there. HSO may be moved for it, once.
+    pub fn hso_due(&mut self, slot: u8) -> Option<StateTime>
+        requires { slot < 8 }
+        ensures due { IsEntryDue self.old.machine.board.units self.old.machine.time slot result }
+        ensures found { result ≡ entry_due self.old.machine.board.units self.old.machine.time slot }
+        ensures same { self.new.machine ≡ self.old.machine }
+        ensures moves { self.new.moves ≤ self.old.moves + 1 }
+    {
+        self.core.hso_due(slot)
+    }
+
+    /// What stands in the holding register of HSO, where it is loaded.
+    pub fn hso_holding(&self) -> Option<Held>
+        ensures { result ≡ self.now.machine.board.units.hso.holding }
+    {
+        self.core.bus.block.hso_holding()
+    }
+
+    /// An entry of the queue of HSI, the oldest at 0; None behind the last one.
+    pub fn hsi_waiting(&self, index: usize) -> Option<HsiEntry>
+        ensures { result ≡ slice_get self.now.machine.board.units.hsi.fifo index }
+    {
+        self.core.bus.block.hsi_waiting(index)
+    }
+
+    /// What the holding register of HSI holds, where it is loaded.
+    pub fn hsi_holding(&self) -> Option<HsiEntry>
+        ensures { result ≡ holding_of self.now.machine.board.units.hsi }
+    {
+        self.core.bus.block.hsi_holding()
+    }
+
+    /// The levels of the inputs, bit n pin n: of one without a wire that of its stimuli in the present state, of a wired one that in
+    /// the state before.
+    pub fn input_levels(&self) -> u64
+        ensures { result ≡ levels_shown self.now.machine.time self.now.machine.board.units }
+    {
+        self.core.bus.block.input_levels()
+    }
+
+    /// The levels of HSO0 to HSO5, of port 1 and of P20, P25, P26 and P27, as the chip drives them, bit n pin n.
+    pub fn printed_levels(&self) -> u64
+        ensures { result ≡ printed self.now.machine.board.units.board_registers self.now.machine.board.units.hso }
+    {
+        self.core.bus.block.printed_levels()
     }
 
     /// Changes the byte at an address of memory, ROM too.

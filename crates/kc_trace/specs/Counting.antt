@@ -1,5 +1,5 @@
--- How many pin edges, entries and cycles of the transfer server were put (this kit's own).
-use Rattle.std.specs.Prelude.{ℕ, ◌+◌, ◌-◌, ◌^◌, min, Bool, List, [], ◌∷◌, if◌then◌else◌}
+-- How many pin edges, entries and cycles of the transfer server were put, and of which pins (this kit's own).
+use Rattle.std.specs.Prelude.{ℕ, ◌+◌, ◌-◌, ◌^◌, bit_or, min, Bool, List, [], ◌∷◌, if◌then◌else◌}
 use Rattle.kc_trace.specs.declared.record.Record.{Record}
 use Rattle.kc_trace.specs.declared.record.Record.TheVariants.{Pin, Entered, Served}
 use Rattle.kc_trace.specs.declared.trace.Counts.{Counts}
@@ -10,7 +10,7 @@ one_more n = min (n + 1) (2 ^ 64 - 1)
 
 -- the counts with one record more
 abbrev pub counted : Record → Counts → Counts
-counted (Pin at edge) c = record c { pins = one_more c.pins }
+counted (Pin at edge) c = record c { pins = one_more c.pins; edges = bit_or c.edges (2 ^ edge.pin.0) }
 counted (Entered at vector back) c = record c { entries = one_more c.entries }
 counted (Served at vector mode count) c = record c { cycles = one_more c.cycles }
 counted _ c = c

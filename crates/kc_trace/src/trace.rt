@@ -8,12 +8,14 @@ use crate::Record;
 use crate::spelling::{LineBytes, put_line};
 use kc_base::{Sink, put_all};
 
-/// How many records of three kinds were put while the sink had not failed; each number stands still at its type's end.
+/// How many records of three kinds were put while the sink had not failed, each number standing still at its type's end; and which
+/// pins have had an edge since that was last cleared, bit n pin n.
 #[derive(Clone, Copy)]
 pub struct Counts {
     pub pins: u64,
     pub entries: u64,
     pub cycles: u64,
+    pub edges: u64,
 }
 
 fn one_more(count: u64) -> u64
@@ -24,11 +26,13 @@ fn one_more(count: u64) -> u64
 
 impl Counts {
     fn with(self, item: &Record) -> Counts
+        requires { CanPrint item.now }
         ensures { result ≡ counted item.now self }
     {
         match item {
-            Record::Pin { .. } => Counts {
+            Record::Pin { edge, .. } => Counts {
                 pins: one_more(self.pins),
+                edges: self.edges | 1 << edge.pin.0,
                 ..self
             },
             Record::Entered { .. } => Counts {
@@ -63,7 +67,7 @@ impl<S: Sink> TraceOut<S> {
     pub fn new(sink: S) -> Self
         ensures sink { result.sink ≡ sink }
         ensures failed { result.failed ≡ false }
-        ensures counts { result.counts ≡ record { pins = 0; entries = 0; cycles = 0 } }
+        ensures counts { result.counts ≡ record { pins = 0; entries = 0; cycles = 0; edges = 0 } }
     {
         TraceOut {
             sink,
@@ -72,6 +76,7 @@ impl<S: Sink> TraceOut<S> {
                 pins: 0,
                 entries: 0,
                 cycles: 0,
+                edges: 0,
             },
         }
     }
@@ -98,11 +103,18 @@ impl<S: Sink> TraceOut<S> {
         &self.sink
     }
 
-    /// How many pin edges, entries and cycles were put while the sink had not failed.
+    /// How many pin edges, entries and cycles were put while the sink had not failed, and of which pins.
     pub fn counts(&self) -> Counts
         ensures { result ≡ self.now.counts }
     {
         self.counts
+    }
+
+    /// Clears which pins have had an edge.
+    pub fn clear_edges(&mut self)
+        ensures { self.new ≡ record self.old { counts = record self.old.counts { edges = 0 } } }
+    {
+        self.counts.edges = 0;
     }
 
     /// Writes a text, of which nothing is written after the sink's first fault.

@@ -6,7 +6,7 @@ use std::alloc::Global;
 use std::test::Fail;
 
 /// A program in parts, each with its address.
-static PROGRAM: [(u16, &[u8]); 7] = [
+static PROGRAM: [(u16, &[u8]); 12] = [
     // CMP 30H,[32H]; JE 210AH; ADD 34H,30H,#1; RET
     (
         0x2100,
@@ -35,6 +35,16 @@ static PROGRAM: [(u16, &[u8]); 7] = [
     (0x2160, &[0xB1, 0x00, 0x30, 0xF4, 0xF5, 0xF0]),
     // EPTS; BMOVI 38H,3CH; RET
     (0x2170, &[0xED, 0xCD, 0x3C, 0x38, 0xF0]),
+    // NOP; RET
+    (0x2180, &[0xFD, 0xF0]),
+    // PUSHA; SCALL 2180H; SCALL 2180H; POPA; RET
+    (0x2190, &[0xF4, 0x2F, 0xED, 0x2F, 0xEB, 0xF5, 0xF0]),
+    // DI; SCALL 2180H; EI; NOP; RET
+    (0x21A0, &[0xFA, 0x2F, 0xDD, 0xFB, 0xFD, 0xF0]),
+    // DI; NOP; RET
+    (0x21B0, &[0xFA, 0xFD, 0xF0]),
+    // SCALL 21B0H; SCALL 21B0H; EI; NOP; RET
+    (0x21C0, &[0x2F, 0xEE, 0x2F, 0xEC, 0xFB, 0xFD, 0xF0]),
 ];
 
 fn program(alloc: Global) -> Result<Image, NoMemory> {
@@ -77,8 +87,8 @@ fn notes(alloc: Global) -> Result<Notes, NoMemory> {
 }
 
 /// From where, with what it begins, the prices of the loops, and the longest time. Between the turns of a loop in which interrupts are
-/// asked for its price is not paid.
-static SHUT: [(u16, EnabledSet, [u64; 2], u64); 8] = [
+/// asked for its price is not paid. A routine that is called twice counts each time, also where a time begins in it.
+static SHUT: [(u16, EnabledSet, [u64; 2], u64); 12] = [
     (0x2143, INTERRUPTIBLE, [0, 0], 9),
     (0x2139, ENTERED, [0, 9], 96),
     (0x2100, INTERRUPTIBLE, [0, 0], 13),
@@ -87,6 +97,10 @@ static SHUT: [(u16, EnabledSet, [u64; 2], u64); 8] = [
     (0x2160, ENTERED, [0, 0], 46),
     (0x2170, INTERRUPTIBLE, [0, 0], 14),
     (0x2170, ENTERED, [0, 0], 50),
+    (0x2190, ENTERED, [0, 0], 97),
+    (0x21A0, INTERRUPTIBLE, [0, 0], 34),
+    (0x21C0, INTERRUPTIBLE, [0, 0], 51),
+    (0x21C0, ENTERED, [0, 0], 64),
 ];
 
 #[test]

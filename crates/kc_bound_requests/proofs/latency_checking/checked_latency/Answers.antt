@@ -13,6 +13,6 @@ returns-clause-shows c =
     record {
       closed = if-some (IsClosed c.args.image.now c.args.notes.now c.args.from c.args.first c.args.c.now.requests) c.in_ok-checked.field-0 (grind (rules, c.is_none.ensures, c.if-is_none.false)) c.in_ok-checked.ensures.closed;
       sound = c.in_ok-all_sound.ensures.sound c.if-not-branch.false;
-      first_most = subst (λ t. list_all (λ e. implies (is_in c.args.first e) (nat_le (shut_at c.args.c.now c.args.from e + t) c.args.c.now.most)) EACH ≡ true) turns (sym c.is_first_most.ensures ∙ c.if-not-is_first_most.false);
+      first_most = subst (λ t. list_all (λ e. implies (is_in c.args.first e) (nat_le (shut_at c.args.c.now c.args.from e + t) c.args.c.now.most)) EACH ≡ true) turns (sym c.are_first_most.ensures ∙ c.if-not-are_first_most.false);
       each_most = c.all_most.ensures.sound c.if-not-all_most.false;
     }

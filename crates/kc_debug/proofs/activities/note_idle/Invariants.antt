@@ -5,4 +5,4 @@ use Rattle.kc_debug.proofs.activities.note_idle.Given as goal
 
 -- the idle states from the first one on, up to this one
 abbrev pub invariant-loop-at : goal.invariant-loop-at
-invariant-loop-at g l = l.begun ≡ buffer (keep_last 33 (l.initial.begun.items ++ idle_states l.first l.pc (l.at - l.first))) 33
+invariant-loop-at g l = l.begun ≡ buffer (keep_last l.initial.begun.capacity (l.initial.begun.items ++ idle_states l.first l.pc (l.at - l.first))) l.initial.begun.capacity

@@ -1,4 +1,4 @@
-use Rattle.std.proofs.Common.{◌-◌, arith}
+use Rattle.std.proofs.Common.{◌-◌, inl, inr, arith}
 use Rattle.kc_debug.specs.Stops.{states_at_once}
 use Rattle.kc_debug.proofs.Begins.{activity-clear}
 use Rattle.kc_debug.proofs.Idling.{idles-at-once}
@@ -13,6 +13,7 @@ returns-then-now-end-clause-passed g c =
       n,
       omega (arith, c.idle_end-end.ensures.within, c.requires.ahead),
       c.idle_end-end.ensures.clear,
+      inl c.idle_end-end.ensures.idles,
       c.pass_idle.ensures.reported,
       on-fault c.pass_idle.result c.pass_idle.ensures.fails (idles-at-once g.X.Extra.further c.args.until n m _ _ _ c.idle_end-end.ensures.idles),
       c.pass_idle.ensures.spent,
@@ -27,7 +28,8 @@ returns-else-now-end-clause-passed g c =
     let one = c.pass_one.ensures.passed in (
       n,
       c.pass_one.ensures.few,
-      activity-clear f c.args.breaks.now n m c.requires.lives one.few,
+      activity-clear f _ n m c.requires.lives one.few,
+      inr one.few,
       activity-reported f n m _ _ _ _ _ c.requires.lives one,
       on-fault c.pass_one.result c.pass_one.ensures.fault.failed (fails-first f (states_at_once c.args.until) m _ _ _ _ _ one c.requires.unbroken),
       c.pass_one.ensures.spent,

@@ -9,7 +9,7 @@ use Rattle.kc_debug.proofs.carrying.step.Given as goal
 abbrev pub invariant-loop-left : goal.invariant-loop-left
 invariant-loop-left g l = record {
   states : ℕ;
-  along : Along g.X.Extra.further l.initial.machine.machine (out_of g.S.Sink.written g.S.Sink.faults l.initial.out) l.initial.begun.items states l.machine.machine (out_of g.S.Sink.written g.S.Sink.faults l.out) l.begun;
+  along : Along g.X.Extra.further l.initial.machine.machine (out_of g.S.Sink.written g.S.Sink.faults l.initial.out) l.initial.begun states l.machine.machine (out_of g.S.Sink.written g.S.Sink.faults l.out) l.begun;
   spent : Spends g.X.Extra.further states l.initial.machine l.initial.steps l.machine l.steps;
   rest : states_of_activities g.X.Extra.further l.count l.initial.machine.machine ≡ states + states_of_activities g.X.Extra.further l.left l.machine.machine;
   time : l.machine.machine.time + 255 * l.left ≤ l.initial.machine.machine.time + 255 * l.count;

@@ -3,7 +3,7 @@ use Rattle.kc_extra.specs.contracts.pair_unit.PairExtra.TheImpl as pair
 use Rattle.kc_cycles.specs.contracts.watchdog.Watchdog as watchdog_type
 use Rattle.kc_cycles.specs.contracts.watchdog.WatchdogExtra.TheImpl as watchdog
 use Rattle.kc_cycles.specs.Making.{deadline_of}
-use Rattle.kc_debug.proofs.Passing.{some_end, none_end}
+use Rattle.kc_debug.proofs.Passing.{kept-last, some_end, none_end}
 use Rattle.kc_debug.proofs.Settled.{gone-over, gone-fails, gone-goes, gone-ready}
 use Rattle.kc_debug.proofs.life.step.Goals as goal
 
@@ -41,3 +41,6 @@ returns-in-Err-clause-goes g c =
     let most = c.args.lives.now.most in
     let none = none_end c.args.life.now.over c.is_some.result c.if-is_some.false c.is_some.ensures in
     gone-fails f made c.args.lives.now.image.now c.args.lives.now.stimuli.now most _ c.args.life.now c.requires.ready none _ _ c.step_in_life.ensures.lines _ c.in-Err.ensures.fault.failed
+
+pub step_in_life-requires-clause-kept : goal.step_in_life-requires-clause-kept
+step_in_life-requires-clause-kept g c = kept-last c.args.life.now.begun 33 c.args.life.now.begun.items c.requires.ready.held.present

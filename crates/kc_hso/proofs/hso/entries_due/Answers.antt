@@ -12,7 +12,7 @@ loop-left-preserved c = λ command latches.
     rw c.earlier-best.ensures
     (due_more c.args.view c.args.now (record { command = command; slots = c.args.slots.now; holding = None; latches = latches })
     _ left (bit_and left (left - 1)) (λ k lt other. other_bits left _ k low.1 low.2 other)
-    c.loop-left.best c.slot_due.result (c.loop-left.invariant command latches) c.slot_due.ensures)
+    c.loop-left.best c.slot_due.result (c.loop-left.invariant command latches) c.slot_due.ensures.due)
 
 pub returns : goal.returns
 returns c = λ command latches.

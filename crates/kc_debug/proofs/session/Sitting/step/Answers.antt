@@ -8,8 +8,8 @@ use Rattle.kc_machine_spec.specs.Run.{run_for}
 use Rattle.kc_debug.specs.Lines.{stand_line}
 use Rattle.kc_debug.specs.Stops.{states_of_activities}
 use Rattle.kc_debug.specs.Transcript.{new_end}
-use Rattle.kc_machine_spec.proofs.Calls.{always-failed, on-fault}
-use Rattle.kc_debug.proofs.Passing.{ran}
+use Rattle.kc_machine_spec.proofs.Calls.{always, always-failed, on-fault}
+use Rattle.kc_debug.proofs.Passing.{kept-last, ran, ring-33}
 use Rattle.kc_debug.proofs.session.Sitting.step.Goals as goal
 
 pub returns-in_err-step-clause-text : goal.returns-in_err-step-clause-text
@@ -48,3 +48,9 @@ returns-clause-fails g c =
       failed = failed;
       machine = c.in_ok-step.ensures.gone.machine;
     }))
+
+pub step-requires-clause-kept : goal.step-requires-clause-kept
+step-requires-clause-kept g c = kept-last c.args.self.now.begun 33 c.args.self.now.begun.items c.requires.kept
+
+pub returns-clause-begun : goal.returns-clause-begun
+returns-clause-begun g c = always c.report_stand.result (ring-33 c.args.self.now.begun _ _ c.requires.kept c.in_ok-step.ensures.gone.begun)

@@ -1,0 +1,10 @@
+use Rattle.std.specs.Prelude.{slice_get}
+use Rattle.std.proofs.Common.{ap, sym, ◌∙◌}
+use Rattle.kc_block_units.specs.Standing.{standing}
+use Rattle.kc_block_sfr.proofs.Left.{standing_reports}
+use Rattle.kc_block_sfr.proofs.holding.hsi_waiting.Goals as goal
+
+pub returns : goal.returns
+returns g c =
+    let reports = standing_reports g.X.Extra.further g.X.Extra.agrees (standing g.X.Extra.plain c.args.scheduler.now) c.args.now c.requires in
+    c.waiting.ensures ∙ ap (λ d. slice_get d.fifo c.args.index) (sym reports.hsi)
